@@ -1,0 +1,4 @@
+pub mod Devices
+pub mod Lines
+pub mod Cutting
+pub mod FirstFault

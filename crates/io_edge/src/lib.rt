@@ -1,0 +1,19 @@
+//! The edge to the outside: inputs, sinks and words, and the lines of a text, whole and in pieces.
+#![tactic(auto)]
+
+mod buffer;
+mod cutter;
+mod devices;
+mod kinds;
+mod lines;
+mod pieces;
+mod step;
+mod write_sink;
+
+pub use cutter::LineCutter;
+pub use devices::{Failed, Inputs, Sink};
+pub use kinds::InputKind;
+pub use lines::{line_of, lines_join, next_segment, no_line_no_fault, without_line_feed};
+pub use pieces::{CutFault, lines_of_pieces};
+pub use step::{CutStep, Fed, Phase};
+pub use write_sink::WriteSink;

@@ -1,0 +1,47 @@
+//! A sink over a writer of std.
+ghost use Rattle.std.specs.Prelude.{◌≡◌, ◌+◌, ◌-◌, ◌^◌, ◌≤◌, min, drop, length};
+ghost use Rattle.io_edge.specs.Devices.{HasCause, Takes};
+
+use crate::{Failed, Sink};
+use std::io::Write;
+
+#[derive(Drop)]
+pub struct WriteSink<W: Write> {
+    to: W,
+    faults: u64,
+}
+
+impl<W: Write> WriteSink<W> {
+    pub fn new(to: W) -> WriteSink<W> {
+        WriteSink { to, faults: 0 }
+    }
+}
+
+impl<W: Write> Sink for WriteSink<W> {
+    ghost told = { λ s. W.contents s.to };
+
+    ghost faults = { λ s. s.faults };
+
+    fn write(&mut self, bytes: &[u8]) -> Result<(), Failed> {
+        let outcome = write_whole(&mut self.to, bytes);
+        if outcome.is_err() {
+            self.faults = self.faults.saturating_add(1);
+        }
+        outcome
+    }
+}
+
+// Writes on until all is taken, and fails where a write does or takes nothing.
+fn write_whole<W: Write>(to: &mut W, bytes: &[u8]) -> Result<(), Failed>
+    ensures { Takes (W.contents to.old) (W.contents to.new) result bytes.now }
+{
+    let mut done = 0;
+    while done < bytes.len() {
+        match to.write(&bytes[done..]) {
+            Ok(0) => return Err(Failed),
+            Ok(n) => done += n,
+            Err(_) => return Err(Failed),
+        }
+    }
+    Ok(())
+}
