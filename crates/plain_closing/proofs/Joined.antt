@@ -1,14 +1,15 @@
 -- What is made of the edges is reached, and a list that has all joins is closed.
-use Rattle.std.proofs.Common.{◌≡◌, ℕ, List, [], ◌∷◌, length, refl, arith, sym, subst}
+use Rattle.std.proofs.Common.{◌≡◌, ℕ, List, [], ◌∷◌, length, get_or, refl, arith, sym, subst}
 use Rattle.std.specs.Prelude.{All, Contains}
-use Rattle.std.proofs.lemmas.List.Elements.{All-contains, All-weaker}
+use Rattle.std.proofs.lemmas.List.Elements.{All-contains, Contains-get_or}
 use Rattle.graph_words.specs.declared.types.Vertex.{Vertex}
 use Rattle.graph_words.specs.declared.types.LabelId.{LabelId}
 use Rattle.graph_words.specs.declared.types.Edge.{Edge}
 use Rattle.graph_words.specs.declared.types.Rule.{Rule}
-use Rattle.graph_words.specs.Reach.{Graph, IsGraph, InRange, edge, rule, Reach, IsClosed}
+use Rattle.graph_words.specs.Reach.{graph_with, Graph, IsGraph, InRange, edge, rule, Reach, IsClosed}
 use Rattle.graph_words.proofs.ReachLaws.{Reach-start, Reach-end, Reach-edge, Reach-append, Reach-rule, Reach-in_closed}
-use Rattle.plain_closing.specs.Joins.{Applies, IsJoin, HasJoins, HasAllJoins, Made, given, joined, graph_of}
+use Rattle.plain_closing.proofs.Adding.{AddsMade-each, AddsMade-keeps}
+use Rattle.plain_closing.specs.Joins.{AddsMade, Applies, IsJoin, HasJoins, HasAllJoins, Made, given, joined}
 
 -- what a rule makes of two edges is reached where these are
 join_reached : (g : Graph) (rules : List Rule) (first second e : Edge) → Reach g rules first.src (first.label ∷ []) first.dst → Reach g rules second.src (second.label ∷ []) second.dst → IsJoin rules first second e → Reach g rules e.src (e.label ∷ []) e.dst
@@ -38,17 +39,20 @@ HasAllJoins-closed n rules edges pairs all a (b ∷ c ∷ []) u v m p =
     subst (λ (x : Vertex). Contains edges (edge u a x)) p.2.2.0 here
 
 -- What each call of the closing promises: each holds the graph's edges, and edges what the joins add. So every edge is reached, and every edge that is reached is there.
-module _ (n : ℕ) (rules : List Rule) (graph each edges : List Edge) (is : IsGraph (graph_of n graph)) (all : All (Contains each) graph) (only : All (Contains graph) each) (made : All (Made rules each) edges) (kept : All (Contains edges) each) where
-  pub closing_reached : All (λ e. Reach (graph_of n graph) rules e.src (e.label ∷ []) e.dst) edges
-  closing_reached = All-weaker (Made rules each) (λ e. Reach (graph_of n graph) rules e.src (e.label ∷ []) e.dst) (λ e m. Made-reached m (graph_of n graph) is only) edges made
+module _ (n : ℕ) (rules : List Rule) (graph each edges : List Edge) (is : IsGraph (graph_with n graph)) (all : All (Contains each) graph) (only : All (Contains graph) each) (made : AddsMade rules each edges) where
+  reached : (e : Edge) → Contains edges e → Reach (graph_with n graph) rules e.src (e.label ∷ []) e.dst
+  reached e m = Made-reached (AddsMade-each rules each edges made e m) (graph_with n graph) is only
+
+  pub closing_reached : All (λ e. Reach (graph_with n graph) rules e.src (e.label ∷ []) e.dst) edges
+  closing_reached k d l = reached (get_or edges k d) (Contains-get_or edges k d l)
 
   closing_in_range : InRange (Contains edges) n
   closing_in_range e m =
-      let r = All-contains (λ (e : Edge). Reach (graph_of n graph) rules e.src (e.label ∷ []) e.dst) edges e closing_reached m in
-      (Reach-start (graph_of n graph) rules e.src e.dst (e.label ∷ []) is r, Reach-end (graph_of n graph) rules e.src e.dst (e.label ∷ []) r)
+      let r = reached e m in
+      (Reach-start (graph_with n graph) rules e.src e.dst (e.label ∷ []) is r, Reach-end (graph_with n graph) rules e.src e.dst (e.label ∷ []) r)
 
   closing_keeps : (e : Edge) → Contains graph e → Contains edges e
-  closing_keeps e m = All-contains (Contains edges) each e kept (All-contains (Contains each) graph e all m)
+  closing_keeps e m = AddsMade-keeps rules each edges made e (All-contains (Contains each) graph e all m)
 
-  pub closing_has : All (λ r. length r.right ≡ 2) rules → HasAllJoins rules edges → (u v : Vertex) (a : LabelId) → Reach (graph_of n graph) rules u (a ∷ []) v → Contains edges (edge u a v)
-  closing_has pairs closed u v a r = Reach-in_closed (graph_of n graph) rules (Contains edges) u v a closing_keeps closing_in_range (HasAllJoins-closed n rules edges pairs closed) r
+  pub closing_has : All (λ r. length r.right ≡ 2) rules → HasAllJoins rules edges → (u v : Vertex) (a : LabelId) → Reach (graph_with n graph) rules u (a ∷ []) v → Contains edges (edge u a v)
+  closing_has pairs closed u v a r = Reach-in_closed (graph_with n graph) rules (Contains edges) u v a closing_keeps closing_in_range (HasAllJoins-closed n rules edges pairs closed) r

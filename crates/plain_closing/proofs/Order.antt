@@ -1,9 +1,9 @@
 -- What a sort says of edges that stand once.
-use Rattle.std.proofs.Common.{◌≡◌, ◌≢◌, ◌⊎◌, ℕ, ◌<◌, ◌≤◌, List, Bool, false, ◌&&◌, eqb, get_or, nat_cmp, is_lt, Ordering, arith, rules, inl, inr}
+use Rattle.std.proofs.Common.{sym, refl, ◌∙◌, true, ◌≡◌, ◌≢◌, ◌⊎◌, ℕ, ◌<◌, ◌≤◌, List, Bool, false, ◌&&◌, eqb, get_or, nat_cmp, is_lt, Ordering, arith, rules, inl, inr}
 use Rattle.std.specs.Prelude.{IsSorted, IsPermutation}
 use Rattle.std.specs.Bool.{Decides}
 use Rattle.std.specs.Cmp.{IsTotalOrder}
-use Rattle.std.specs.Ordering.{ordering_then}
+use Rattle.std.specs.Ordering.{ordering_then, is_eq}
 use Rattle.std.proofs.lemmas.Bool.Decides.{nat_tests}
 use Rattle.std.proofs.lemmas.Cmp.{then_total, on_total, nat_cmp_total}
 use Rattle.std.proofs.lemmas.List.Sorted.{ranks_by, sorted_far}
@@ -12,11 +12,9 @@ use Rattle.std.proofs.lemmas.Map.Made.{AllPairs-from_IsDistinct, IsDistinct-from
 use Rattle.graph_words.specs.declared.types.Edge.{Edge}
 use Rattle.graph_words.specs.Reach.{IsBefore, IsAscending}
 use Rattle.plain_closing.specs.Joins.{IsOnce}
+use Rattle.plain_closing.specs.Listed.{edge_cmp}
 
-abbrev pub edge_cmp : Edge → Edge → Ordering
-edge_cmp x y = ordering_then (nat_cmp x.src.0 y.src.0) (ordering_then (nat_cmp x.label.0 y.label.0) (nat_cmp x.dst.0 y.dst.0))
-
-edge_cmp_total : IsTotalOrder edge_cmp
+pub edge_cmp_total : IsTotalOrder edge_cmp
 edge_cmp_total = then_total (on_total (λ (e : Edge). e.src.0) nat_cmp_total) (then_total (on_total (λ (e : Edge). e.label.0) nat_cmp_total) (on_total (λ (e : Edge). e.dst.0) nat_cmp_total))
 
 abbrev edge_eq : Edge → Edge → Bool
@@ -54,3 +52,14 @@ pub IsAscending-from_sort : (xs : List Edge) → IsOnce xs → IsSorted edge_cmp
 IsAscending-from_sort xs once up i j d l h =
     before (get_or xs i d) (get_or xs j d) (once i j d l h)
     (sorted_far (λ x y. is_lt (edge_cmp x y)) (ranks_by edge_cmp_total (λ e. e)) xs up i j d (omega arith) h)
+
+edge_eq_by_cmp : (x y : Edge) → is_eq (edge_cmp x y) ≡ edge_eq x y
+edge_eq_by_cmp x y = grind (arith, nat_tests)
+
+-- edges that compare equal are one
+pub edges_are_same : (x y : Edge) → is_eq (edge_cmp x y) ≡ true → x ≡ y
+edges_are_same x y h = (edge_eq_tells x y).0 (sym (edge_eq_by_cmp x y) ∙ h)
+
+-- an edge compares equal to itself
+pub edge_is_itself : (x : Edge) → is_eq (edge_cmp x x) ≡ true
+edge_is_itself x = edge_eq_by_cmp x x ∙ (edge_eq_tells x x).1 refl
