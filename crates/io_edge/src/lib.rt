@@ -8,6 +8,7 @@ mod kinds;
 mod lines;
 mod pieces;
 mod step;
+mod word_list;
 mod write_sink;
 
 pub use cutter::LineCutter;
@@ -16,4 +17,5 @@ pub use kinds::InputKind;
 pub use lines::{line_of, lines_join, next_segment, no_line_no_fault, without_line_feed};
 pub use pieces::{CutFault, lines_of_pieces};
 pub use step::{CutStep, Fed, Phase};
+pub use word_list::WordList;
 pub use write_sink::WriteSink;
