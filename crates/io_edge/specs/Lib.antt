@@ -2,3 +2,4 @@ pub mod Devices
 pub mod Lines
 pub mod Cutting
 pub mod FirstFault
+pub mod MemFiles
