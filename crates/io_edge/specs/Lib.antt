@@ -3,3 +3,4 @@ pub mod Lines
 pub mod Cutting
 pub mod FirstFault
 pub mod MemFiles
+pub mod MemBytes

@@ -12,10 +12,14 @@ pub record NamedFile : Type 0 where
 abbrev pub first_named : List NamedFile → List ℕ → Option (List ℕ)
 first_named files name = option_map (λ file. file.bytes) (find (λ file. bytes_eq file.name name) files)
 
--- the bytes of the first file of a name, and none where the name isn't there
+-- the bytes, and none where nothing is there
 abbrev pub bytes_or_none : Option (List ℕ) → List ℕ
 bytes_or_none None = []
 bytes_or_none (Some bytes) = bytes
+
+-- where no read fails, each name has its first file, or else an empty one
+abbrev pub sure_bytes : List NamedFile → List ℕ → Option (List ℕ)
+sure_bytes files name = Some (bytes_or_none (first_named files name))
 
 -- one more, but a u64 stays at its greatest value
 abbrev pub one_more : ℕ → ℕ

@@ -3,7 +3,7 @@ ghost use Rattle.std.specs.Prelude.{◌≡◌, ◌⊎◌, ◌+◌, ◌-◌, ◌<
 ghost use Rattle.io_edge.specs.Devices.{Gives, HasCause};
 ghost use Rattle.io_edge.specs.MemFiles.{first_named, after_read, read_len};
 
-use crate::named_bytes::{NamedBytes, find_file};
+use crate::named_bytes::{NamedBytes, copy_part, find_file};
 use crate::{Failed, Inputs};
 use std::marker::Model;
 
@@ -97,18 +97,4 @@ fn read_call(
         None => Err(Failed),
         Some(bytes) => Ok(copy_part(bytes, at, buf)),
     }
-}
-
-/// Copies the bytes from a place on, as many as there are and fit.
-pub(crate) fn copy_part(bytes: &[u8], at: u64, buf: &mut [u8]) -> usize
-    ensures count { result ≡ read_len bytes.now at (length buf.new) }
-    ensures bytes { Gives bytes.now at buf.new result }
-{
-    if at >= bytes.len() as u64 {
-        return 0;
-    }
-    let rest = &bytes[at as usize..];
-    let n = rest.len().min(buf.len());
-    buf[..n].copy_from_slice(&rest[..n]);
-    n
 }
