@@ -2,3 +2,5 @@ pub mod Devices
 pub mod Lines
 pub mod Cutting
 pub mod FirstFault
+pub mod MemFiles
+pub mod MemBytes
