@@ -1,0 +1,110 @@
+//! The edges of a file, which is read piece by piece.
+ghost use Rattle.std.specs.Prelude.{◌≡◌, ◌<◌, ◌≤◌, ℕ, List, Some, IfOk, IfErr, length};
+ghost use Rattle.io_edge.specs.declared.kinds.InputKind.{InputKind as AKind};
+ghost use Rattle.io_edge.specs.Devices.{Rose};
+ghost use Rattle.graph_words.specs.Text.{distinct};
+ghost use Rattle.edge_text.specs.EdgesText.{edges_fault, ReadsEdges};
+
+use crate::feed::{end_text, feed_piece};
+use graph_words::EdgeList;
+use io_edge::{Failed, InputKind, Inputs, LineCutter};
+use label_table::LabelTable;
+use std::alloc::{AllocError, Global};
+
+/// How many bytes are read at a time.
+const PIECE_LEN: usize = 65_536;
+
+/// Why a file has no graph.
+#[derive(Clone, Copy, Debug, PartialEq, Eq)]
+pub enum EdgesFault {
+    /// A read failed: the count of faults of this name rose.
+    ReadFailed,
+    /// The text has this first fault, in the line with this number, counted from 1.
+    Text { line: u64, kind: InputKind },
+    /// Memory was wanted.
+    NoMemory,
+}
+
+impl From<Failed> for EdgesFault {
+    ghost use Rattle.edge_text.specs.declared.edges.EdgesFault.TheVariants.{ReadFailed};
+    ghost from_gives = { λ _ e. e ≡ ReadFailed };
+
+    fn from(_: Failed) -> Self {
+        EdgesFault::ReadFailed
+    }
+}
+
+impl From<AllocError> for EdgesFault {
+    ghost use Rattle.edge_text.specs.declared.edges.EdgesFault.TheVariants.{NoMemory};
+    ghost from_gives = { λ _ e. e ≡ NoMemory };
+
+    fn from(_: AllocError) -> Self {
+        EdgesFault::NoMemory
+    }
+}
+
+/// Reads a file to its end by pieces as long as the buffer.
+fn read_text<I: Inputs>(
+    alloc: Global,
+    inputs: &mut I,
+    name: &str,
+    table: &mut LabelTable,
+    piece: &mut [u8],
+) -> Result<EdgeList, EdgesFault>
+    requires short { length table.old ≤ 1000 }
+    requires some { 0 < length piece.old }
+    requires small { length piece.old ≤ 65536 }
+    ensures edges { IfOk result (λ edges. (file : List ℕ) (names : List (List ℕ)) → I.told inputs.old name.now ≡ Some file
+        → table.old ≡ distinct names → ReadsEdges names file edges table.new) }
+    ensures fault { IfErr result (λ e. (line : ℕ) (kind : AKind) (file : List ℕ) (names : List (List ℕ)) → e ≡ EdgesFault.Text line kind
+        → I.told inputs.old name.now ≡ Some file → table.old ≡ distinct names → edges_fault names file ≡ Some (record { line = line; kind = kind })) }
+    ensures failed { IfErr result (λ e. e ≡ EdgesFault.ReadFailed → Rose (I.faults inputs.old name.now) (I.faults inputs.new name.now)) }
+    ensures kept { I.told inputs.new ≡ I.told inputs.old }
+    ensures others { (other : List ℕ) → I.faults inputs.old other ≤ I.faults inputs.new other }
+{
+    let mut cutter = LineCutter::new(alloc)?;
+    let mut edges = Vec::new(alloc);
+    let mut lines: u64 = 0;
+    let mut place: u64 = 0;
+    loop {
+        let n = inputs.read(name, place, piece)?;
+        if n == 0 {
+            break;
+        }
+        feed_piece(
+            alloc,
+            &mut cutter,
+            table,
+            &mut edges,
+            &mut lines,
+            &mut place,
+            &piece[..n],
+        )?;
+    }
+    end_text(alloc, &mut cutter, table, &mut edges, lines, place)?;
+    Ok(EdgeList::from_vec(edges))
+}
+
+/// Reads an edge file to its end, in pieces of 65,536 bytes, and answers its edges in the order of their lines.
+///
+/// Labels are numbered by the table, to which new names are added; the names that stand in it before count first.
+/// The file comes from outside and may hold any bytes: its first fault is answered with line and kind. After a fault
+/// the table may have more names than before.
+pub fn read_edges<I: Inputs>(
+    alloc: Global,
+    inputs: &mut I,
+    name: &str,
+    table: &mut LabelTable,
+) -> Result<EdgeList, EdgesFault>
+    requires { length table.old ≤ 1000 }
+    ensures edges { IfOk result (λ edges. (file : List ℕ) (names : List (List ℕ)) → I.told inputs.old name.now ≡ Some file
+        → table.old ≡ distinct names → ReadsEdges names file edges table.new) }
+    ensures fault { IfErr result (λ e. (line : ℕ) (kind : AKind) (file : List ℕ) (names : List (List ℕ)) → e ≡ EdgesFault.Text line kind
+        → I.told inputs.old name.now ≡ Some file → table.old ≡ distinct names → edges_fault names file ≡ Some (record { line = line; kind = kind })) }
+    ensures failed { IfErr result (λ e. e ≡ EdgesFault.ReadFailed → Rose (I.faults inputs.old name.now) (I.faults inputs.new name.now)) }
+    ensures kept { I.told inputs.new ≡ I.told inputs.old }
+    ensures others { (other : List ℕ) → I.faults inputs.old other ≤ I.faults inputs.new other }
+{
+    let mut piece = Vec::from_elem(alloc, 0, PIECE_LEN)?;
+    read_text(alloc, inputs, name, table, &mut piece)
+}
