@@ -13,6 +13,8 @@ mod pieces;
 mod print;
 mod step;
 mod sure_inputs;
+#[cfg(test)]
+mod tests;
 mod whole;
 mod word_list;
 mod write_sink;

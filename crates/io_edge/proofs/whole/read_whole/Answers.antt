@@ -26,10 +26,10 @@ loop-at-preserved g c =
       kept = c.in_ok-n.ensures.kept ∙ before.kept;
       count = λ k. omega (arith, before.count k, c.in_ok-n.ensures.others k);
       so_far = λ file told.
-        let same : g.I.Inputs.told c.loop-at.inputs c.args.name.now ≡ Some file = ap (λ f. f c.args.name.now) before.kept ∙ told in
-        let more = one_piece_more file whole buf c.loop-at.at n (before.so_far file told).0 (before.so_far file told).1 (c.in_ok-n.ensures.bytes file same) in
-        let grown : c.extend_from_slice.new.self.items ≡ whole ++ take n c.deref.result.now = c.in_ok-extend_from_slice.ensures.items in
-        let is_buf : c.deref.result.now ≡ buf = c.deref.ensures.value ∙ written c.loop-at.buf.len buf _ full in
-        let appended : whole ++ take n c.deref.result.now ≡ whole ++ take n buf = ap (λ (l : List ℕ). whole ++ take n l) is_buf in
-        (grown ∙ (appended ∙ more.0), more.1);
+          let same : g.I.Inputs.told c.loop-at.inputs c.args.name.now ≡ Some file = ap (λ f. f c.args.name.now) before.kept ∙ told in
+          let more = one_piece_more file whole buf c.loop-at.at n (before.so_far file told).0 (before.so_far file told).1 (c.in_ok-n.ensures.bytes file same) in
+          let grown : c.extend_from_slice.new.self.items ≡ whole ++ take n c.deref.result.now = c.in_ok-extend_from_slice.ensures.items in
+          let is_buf : c.deref.result.now ≡ buf = c.deref.ensures.value ∙ written c.loop-at.buf.len buf _ full in
+          let appended : whole ++ take n c.deref.result.now ≡ whole ++ take n buf = ap (λ (l : List ℕ). whole ++ take n l) is_buf in
+          (grown ∙ (appended ∙ more.0), more.1);
     }
