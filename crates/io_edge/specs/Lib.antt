@@ -4,3 +4,4 @@ pub mod Cutting
 pub mod FirstFault
 pub mod MemFiles
 pub mod MemBytes
+pub mod Reading

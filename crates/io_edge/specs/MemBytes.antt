@@ -14,5 +14,5 @@ abbrev pub after_write : BytesTaken → Bool → List ℕ → BytesTaken
 after_write before well piece = record before {
   bytes = if well then before.bytes ++ piece else before.bytes;
   calls = one_more before.calls;
-  faults = if well then before.faults else one_more before.faults
+  faults = if well then before.faults else one_more before.faults;
 }

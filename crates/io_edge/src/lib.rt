@@ -10,20 +10,26 @@ mod mem_inputs;
 mod mem_sink;
 mod named_bytes;
 mod pieces;
+mod print;
 mod step;
 mod sure_inputs;
+#[cfg(test)]
+mod tests;
+mod whole;
 mod word_list;
 mod write_sink;
 
 pub use cutter::LineCutter;
 pub use devices::{Failed, Inputs, Sink};
-pub use kinds::InputKind;
+pub use kinds::{InputFile, InputKind};
 pub use lines::{line_of, lines_join, next_segment, no_line_no_fault, without_line_feed};
 pub use mem_inputs::MemInputs;
 pub use mem_sink::{MemSink, NullSink};
 pub use named_bytes::NamedBytes;
 pub use pieces::{CutFault, lines_of_pieces};
+pub use print::write_line;
 pub use step::{CutStep, Fed, Phase};
 pub use sure_inputs::SureInputs;
+pub use whole::{ReadFault, read_whole};
 pub use word_list::WordList;
 pub use write_sink::WriteSink;

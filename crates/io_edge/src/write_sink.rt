@@ -5,6 +5,9 @@ ghost use Rattle.io_edge.specs.Devices.{HasCause, Takes};
 use crate::{Failed, Sink};
 use std::io::Write;
 
+/// Prints to a writer, and tells what the writer tells.
+///
+/// A write that takes nothing of a piece that isn't empty has failed.
 #[derive(Drop)]
 pub struct WriteSink<W: Write> {
     to: W,
@@ -12,7 +15,10 @@ pub struct WriteSink<W: Write> {
 }
 
 impl<W: Write> WriteSink<W> {
-    pub fn new(to: W) -> WriteSink<W> {
+    /// A sink over this writer, and no faults yet.
+    pub fn new(to: W) -> WriteSink<W>
+        ensures { result ≡ record { to = to; faults = 0 } }
+    {
         WriteSink { to, faults: 0 }
     }
 }

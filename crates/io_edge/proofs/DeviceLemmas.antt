@@ -1,0 +1,24 @@
+-- Calls of a sink or of inputs, one after another, joined to one.
+use Rattle.std.proofs.Common.{◌+◌, ℕ, List, ◌++◌, length, take, Result, Ok, Err, Option, sym, subst, arith, length-append}
+use Rattle.std.specs.Io.KnownBytes.{Appends}
+use Rattle.std.proofs.KnownBytes.{Appends-trans}
+use Rattle.std.proofs.Math.Seq.{take-append-add}
+use Rattle.std.proofs.lemmas.List.{take-append-le}
+use Rattle.io_edge.specs.Devices.{HasCause, Takes, AppendsPrefix}
+
+-- a prefix of the first piece is one of both
+pub AppendsPrefix-more : (a b : Option (List ℕ)) (first next : List ℕ) → AppendsPrefix a b first → AppendsPrefix a b (first ++ next)
+AppendsPrefix-more a b first next p =
+    let within = p.1 in
+    (p.0, omega (arith, p.1, length-append first next), subst (λ (l : List ℕ). Appends a b l) (sym (take-append-le p.0 first next within)) p.2)
+
+-- a piece more, after one that was taken
+pub takes_more : {T E : Type 0} (a b c : Option (List ℕ)) (r : Result T E) (first next : List ℕ) → Appends a b first → Takes b c r next → Takes a c r (first ++ next)
+takes_more a b c (Ok _) first next p q = Appends-trans a b c first next p q
+takes_more a b c (Err _) first next p q =
+    (length first + q.0, omega (arith, q.1, length-append first next), subst (λ (l : List ℕ). Appends a c l) (sym (take-append-add first next q.0)) (Appends-trans a b c first (take q.0 next) p q.2))
+
+-- a call, after one that failed or didn't
+pub HasCause-then : {T E U F : Type 0} (a b c : ℕ) (first : Result T E) (second : Result U F) → HasCause a b first → HasCause b c second → HasCause a c second
+HasCause-then a b c first (Ok _) p q = record { later = omega (arith, p.later, q.later); failed = tt }
+HasCause-then a b c first (Err _) p q = record { later = omega (arith, p.later, q.later); failed = omega (arith, p.later, q.failed) }

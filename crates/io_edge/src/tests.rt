@@ -1,0 +1,124 @@
+//! That the calls succeed where memory is ample, and that each is used at a concrete type.
+
+use crate::{
+    Failed, Inputs, MemInputs, MemSink, NamedBytes, NullSink, ReadFault, Sink, SureInputs,
+    WordList, WriteSink, lines_of_pieces, read_whole, write_line,
+};
+use std::alloc::{AllocError, Global};
+use std::test::Fail;
+
+fn named(alloc: Global, name: &str, bytes: &[u8]) -> Result<NamedBytes, AllocError> {
+    Ok(NamedBytes {
+        name: String::from_str(alloc, name)?,
+        bytes: bytes.to_vec(alloc)?,
+    })
+}
+
+// Two files of one name, and one that takes two pieces to read.
+fn three_files(alloc: Global) -> Result<Vec<NamedBytes>, AllocError> {
+    let mut files = Vec::new(alloc);
+    files.push(named(alloc, "a", b"first")?)?;
+    files.push(named(alloc, "a", b"second")?)?;
+    let long = vec![in alloc; 7u8; 70_000]?;
+    files.push(named(alloc, "long", &long)?)?;
+    Ok(files)
+}
+
+#[test]
+fn the_first_file_of_a_name_counts_and_a_listed_call_fails(rt: HostRuntime) -> Result<(), Fail> {
+    let mut inputs = MemInputs::new(three_files(rt.alloc())?);
+    inputs.fail_calls(vec![in rt.alloc(); 1]?);
+    let mut buf = [0; 8];
+    assert_eq!(rt; inputs.read("a", 2, &mut buf), Ok(3));
+    assert_eq!(rt; &buf[..3], b"rst".as_slice());
+    assert_eq!(rt;
+        inputs.read("a", 0, &mut buf),
+        Err(Failed),
+        "call 1 is listed"
+    );
+    assert_eq!(rt; inputs.read("a", 5, &mut buf), Ok(0), "the end");
+    assert_eq!(rt; inputs.read("b", 0, &mut buf), Err(Failed), "no such name");
+    Ok(())
+}
+
+#[test]
+fn a_whole_input_is_read_in_pieces(rt: HostRuntime) -> Result<(), Fail> {
+    let alloc = rt.alloc();
+    let mut inputs = MemInputs::new(three_files(alloc)?);
+    for (name, limit, len) in [
+        ("a", 100, 5),
+        ("a", 2, 5),
+        ("long", 70_000, 70_000),
+        ("long", 9, 65_536),
+    ] {
+        let whole = read_whole(alloc, &mut inputs, name, limit)?;
+        assert_eq!(rt; whole.len(), len, "{name} up to {limit}");
+    }
+    // The reads above took 2, 1, 3 and 1 calls: to an end takes one that gives nothing.
+    inputs.fail_calls(vec![in alloc; 8]?);
+    let outcome = read_whole(alloc, &mut inputs, "long", 70_000);
+    assert_eq!(rt;
+        outcome.err(),
+        Some(ReadFault::ReadFailed),
+        "the second piece fails"
+    );
+    let mut sure = SureInputs::new(three_files(alloc)?);
+    assert!(rt; read_whole(alloc, &mut sure, "b", 10)?.is_empty());
+    assert_eq!(rt;
+        read_whole(alloc, &mut sure, "a", 10)?.as_slice(),
+        b"first".as_slice()
+    );
+    Ok(())
+}
+
+#[test]
+fn a_failing_write_takes_nothing(rt: HostRuntime) -> Result<(), Fail> {
+    let mut sink = MemSink::new(rt.alloc());
+    sink.fail_calls(vec![in rt.alloc(); 3]?);
+    write_line(&mut sink, b"one")?;
+    assert_eq!(rt; write_line(&mut sink, b"two"), Err(Failed));
+    assert_eq!(rt; sink.bytes(), b"one\ntwo".as_slice());
+    write_line(&mut sink, b"")?;
+    assert_eq!(rt; sink.bytes(), b"one\ntwo\n".as_slice());
+    NullSink.write(b"one")?;
+    Ok(())
+}
+
+#[test]
+fn a_full_writer_is_a_failed_write(rt: HostRuntime) -> Result<(), Fail> {
+    let mut room = [0; 4];
+    let mut sink = WriteSink::new(&mut room[..]);
+    write_line(&mut sink, b"ab")?;
+    assert_eq!(rt; write_line(&mut sink, b"cd"), Err(Failed));
+    assert_eq!(rt; &room[..], b"ab\nc".as_slice());
+    Ok(())
+}
+
+#[test]
+fn words_stay_in_order(rt: HostRuntime) -> Result<(), Fail> {
+    let mut words = WordList::new(rt.alloc());
+    for word in ["run", "", "a b"] {
+        words.push(word)?;
+    }
+    assert_eq!(rt; words.len(), 3);
+    assert_eq!(rt; words.get(0), "run");
+    assert_eq!(rt; words.get(1), "");
+    assert_eq!(rt; words.get(2), "a b");
+    Ok(())
+}
+
+#[test]
+fn a_line_end_may_be_cut_in_two(rt: HostRuntime) -> Result<(), Fail> {
+    let mut pieces = Vec::new(rt.alloc());
+    pieces
+        .push(b"ab\r".to_vec(rt.alloc())?)
+        .map_err(AllocError::from)?;
+    pieces
+        .push(b"\nc".to_vec(rt.alloc())?)
+        .map_err(AllocError::from)?;
+    let lines = lines_of_pieces(rt.alloc(), &pieces)?;
+    assert_eq!(rt; lines.len(), 2);
+    assert_eq!(rt; lines[0].as_slice(), b"ab".as_slice());
+    assert_eq!(rt; lines[1].as_slice(), b"c".as_slice());
+    Ok(())
+}
