@@ -1,10 +1,10 @@
 -- Calls of a sink or of inputs, one after another, joined to one.
-use Rattle.std.proofs.Common.{◌+◌, ℕ, List, ◌++◌, length, take, Result, Ok, Err, Option, sym, subst, arith, length-append}
+use Rattle.std.proofs.Common.{◌+◌, ◌≤◌, ℕ, List, ◌++◌, length, take, Result, Ok, Err, Option, sym, subst, arith, length-append}
 use Rattle.std.specs.Io.KnownBytes.{Appends}
 use Rattle.std.proofs.KnownBytes.{Appends-trans}
 use Rattle.std.proofs.Math.Seq.{take-append-add}
 use Rattle.std.proofs.lemmas.List.{take-append-le}
-use Rattle.io_edge.specs.Devices.{HasCause, Takes, AppendsPrefix}
+use Rattle.io_edge.specs.Devices.{HasCause, Rose, Takes, AppendsPrefix}
 
 -- a prefix of the first piece is one of both
 pub AppendsPrefix-more : (a b : Option (List ℕ)) (first next : List ℕ) → AppendsPrefix a b first → AppendsPrefix a b (first ++ next)
@@ -22,3 +22,11 @@ takes_more a b c (Err _) first next p q =
 pub HasCause-then : {T E U F : Type 0} (a b c : ℕ) (first : Result T E) (second : Result U F) → HasCause a b first → HasCause b c second → HasCause a c second
 HasCause-then a b c first (Ok _) p q = record { later = omega (arith, p.later, q.later); failed = tt }
 HasCause-then a b c first (Err _) p q = record { later = omega (arith, p.later, q.later); failed = omega (arith, p.later, q.failed) }
+
+-- a count that rose later rose since before
+pub Rose-later : (a b c : ℕ) → a ≤ b → Rose b c → Rose a c
+Rose-later a b c l r = omega arith
+
+-- a count that rose, and fell no more
+pub Rose-still : (a b c : ℕ) → Rose a b → b ≤ c → Rose a c
+Rose-still a b c r l = omega arith
