@@ -14,19 +14,28 @@ fn named(alloc: Global, name: &str, bytes: &[u8]) -> Result<NamedBytes, AllocErr
     })
 }
 
-// Two files of one name, and one that takes two pieces to read.
-fn three_files(alloc: Global) -> Result<Vec<NamedBytes>, AllocError> {
+// Two files of one name.
+fn two_files(alloc: Global) -> Result<Vec<NamedBytes>, AllocError> {
     let mut files = Vec::new(alloc);
     files.push(named(alloc, "a", b"first")?)?;
     files.push(named(alloc, "a", b"second")?)?;
-    let long = vec![in alloc; 7u8; 70_000]?;
-    files.push(named(alloc, "long", &long)?)?;
+    Ok(files)
+}
+
+// A file that takes two pieces to read.
+fn long_file(alloc: Global) -> Result<Vec<NamedBytes>, AllocError> {
+    let mut bytes = Vec::new(alloc);
+    for _ in 0..70_000 {
+        bytes.push(7u8)?;
+    }
+    let mut files = Vec::new(alloc);
+    files.push(named(alloc, "long", &bytes)?)?;
     Ok(files)
 }
 
 #[test]
 fn the_first_file_of_a_name_counts_and_a_listed_call_fails(rt: HostRuntime) -> Result<(), Fail> {
-    let mut inputs = MemInputs::new(three_files(rt.alloc())?);
+    let mut inputs = MemInputs::new(two_files(rt.alloc())?);
     inputs.fail_calls(vec![in rt.alloc(); 1]?);
     let mut buf = [0; 8];
     assert_eq!(rt; inputs.read("a", 2, &mut buf), Ok(3));
@@ -43,31 +52,29 @@ fn the_first_file_of_a_name_counts_and_a_listed_call_fails(rt: HostRuntime) -> R
 
 #[test]
 fn a_whole_input_is_read_in_pieces(rt: HostRuntime) -> Result<(), Fail> {
-    let alloc = rt.alloc();
-    let mut inputs = MemInputs::new(three_files(alloc)?);
-    for (name, limit, len) in [
-        ("a", 100, 5),
-        ("a", 2, 5),
-        ("long", 70_000, 70_000),
-        ("long", 9, 65_536),
-    ] {
-        let whole = read_whole(alloc, &mut inputs, name, limit)?;
-        assert_eq!(rt; whole.len(), len, "{name} up to {limit}");
-    }
-    // The reads above took 2, 1, 3 and 1 calls: to an end takes one that gives nothing.
-    inputs.fail_calls(vec![in alloc; 8]?);
-    let outcome = read_whole(alloc, &mut inputs, "long", 70_000);
+    let mut inputs = MemInputs::new(long_file(rt.alloc())?);
+    // Calls 0 to 2: the last one finds the end.
+    let whole = read_whole(rt.alloc(), &mut inputs, "long", 70_000)?;
+    assert_eq!(rt; whole.len(), 70_000);
+    let front = read_whole(rt.alloc(), &mut inputs, "long", 9)?;
+    assert_eq!(rt; front.len(), 65_536);
+    inputs.fail_calls(vec![in rt.alloc(); 5]?);
+    let outcome = read_whole(rt.alloc(), &mut inputs, "long", 70_000);
     assert_eq!(rt;
         outcome.err(),
         Some(ReadFault::ReadFailed),
         "the second piece fails"
     );
-    let mut sure = SureInputs::new(three_files(alloc)?);
-    assert!(rt; read_whole(alloc, &mut sure, "b", 10)?.is_empty());
-    assert_eq!(rt;
-        read_whole(alloc, &mut sure, "a", 10)?.as_slice(),
-        b"first".as_slice()
-    );
+    Ok(())
+}
+
+#[test]
+fn sure_inputs_have_each_name(rt: HostRuntime) -> Result<(), Fail> {
+    let mut inputs = SureInputs::new(two_files(rt.alloc())?);
+    let listed = read_whole(rt.alloc(), &mut inputs, "a", 10)?;
+    assert_eq!(rt; listed.as_slice(), b"first".as_slice());
+    let other = read_whole(rt.alloc(), &mut inputs, "b", 10)?;
+    assert_eq!(rt; other.len(), 0);
     Ok(())
 }
 
@@ -97,13 +104,11 @@ fn a_full_writer_is_a_failed_write(rt: HostRuntime) -> Result<(), Fail> {
 #[test]
 fn words_stay_in_order(rt: HostRuntime) -> Result<(), Fail> {
     let mut words = WordList::new(rt.alloc());
-    for word in ["run", "", "a b"] {
-        words.push(word)?;
-    }
-    assert_eq!(rt; words.len(), 3);
+    words.push("run")?;
+    words.push("a b")?;
+    assert_eq!(rt; words.len(), 2);
     assert_eq!(rt; words.get(0), "run");
-    assert_eq!(rt; words.get(1), "");
-    assert_eq!(rt; words.get(2), "a b");
+    assert_eq!(rt; words.get(1), "a b");
     Ok(())
 }
 
