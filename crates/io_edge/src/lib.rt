@@ -22,7 +22,7 @@ mod write_sink;
 pub use cutter::LineCutter;
 pub use devices::{Failed, Inputs, Sink};
 pub use kinds::{InputFile, InputKind};
-pub use lines::{line_of, lines_join, next_segment, no_line_no_fault, without_line_feed};
+pub use lines::{line_of, lines_join, long_texts_have_faults, next_segment, without_line_feed};
 pub use mem_inputs::MemInputs;
 pub use mem_sink::{MemSink, NullSink};
 pub use named_bytes::NamedBytes;
