@@ -1,7 +1,6 @@
 //! A sink over a writer of std.
 ghost use Rattle.std.specs.Prelude.{◌≡◌, ◌+◌, ◌-◌, ◌^◌, ◌≤◌, min, drop, length, is_ok, if◌then◌else◌};
-ghost use Rattle.io_edge.specs.Devices.{HasCause, Takes};
-ghost use Rattle.io_edge.specs.MemFiles.{one_more};
+ghost use Rattle.io_edge.specs.Devices.{HasCause, Takes, one_more};
 
 use crate::{Failed, Sink};
 use std::io::Write;
