@@ -1,6 +1,7 @@
 -- Files in memory, and the count of the calls that read them.
-use Rattle.std.specs.Prelude.{ℕ, Bool, ◌+◌, ◌-◌, ◌^◌, min, List, [], length, Option, Some, None, find, if◌then◌else◌}
+use Rattle.std.specs.Prelude.{ℕ, Bool, ◌-◌, min, List, [], length, Option, Some, None, find, if◌then◌else◌}
 use Rattle.std.specs.Option.{option_map}
+use Rattle.io_edge.specs.Devices.{one_more}
 use Rattle.std.specs.Str.{bytes_eq}
 
 -- a name, and the bytes of its file
@@ -20,10 +21,6 @@ bytes_or_none (Some bytes) = bytes
 -- where no read fails, each name has its first file, or else an empty one
 abbrev pub sure_bytes : List NamedFile → List ℕ → Option (List ℕ)
 sure_bytes files name = Some (bytes_or_none (first_named files name))
-
--- one more, but a u64 stays at its greatest value
-abbrev pub one_more : ℕ → ℕ
-one_more n = min (n + 1) (2 ^ 64 - 1)
 
 -- files, the numbers of the calls that fail, and how many calls there were and how many of them failed
 pub record FilesRead : Type 0 where

@@ -1,6 +1,6 @@
 //! A sink over a writer of std.
-ghost use Rattle.std.specs.Prelude.{◌≡◌, ◌+◌, ◌-◌, ◌^◌, ◌≤◌, min, drop, length};
-ghost use Rattle.io_edge.specs.Devices.{HasCause, Takes};
+ghost use Rattle.std.specs.Prelude.{◌≡◌, ◌+◌, ◌-◌, ◌^◌, ◌≤◌, min, drop, length, is_ok, if◌then◌else◌};
+ghost use Rattle.io_edge.specs.Devices.{HasCause, Takes, one_more};
 
 use crate::{Failed, Sink};
 use std::io::Write;
@@ -28,7 +28,11 @@ impl<W: Write> Sink for WriteSink<W> {
 
     ghost faults = { λ s. s.faults };
 
-    fn write(&mut self, bytes: &[u8]) -> Result<(), Failed> {
+    fn write(&mut self, bytes: &[u8]) -> Result<(), Failed>
+        ensures taken { Takes (W.contents self.old.to) (W.contents self.new.to) result bytes.now }
+        ensures cause { HasCause self.old.faults self.new.faults result }
+        ensures count { self.new.faults ≡ (if is_ok result then self.old.faults else one_more self.old.faults) }
+    {
         let outcome = write_whole(&mut self.to, bytes);
         if outcome.is_err() {
             self.faults = self.faults.saturating_add(1);
