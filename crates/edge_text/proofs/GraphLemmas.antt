@@ -3,6 +3,7 @@ use Rattle.std.proofs.Common.{◌≡◌, ℕ, ◌+◌, ◌<◌, ◌≤◌, max, 
 use Rattle.std.specs.Prelude.{All}
 use Rattle.std.specs.List.{AllZip, filter_map, cons_option}
 use Rattle.std.specs.Str.Parse.{digits_value}
+use Rattle.std.proofs.lemmas.Option.{slice_get_within}
 use Rattle.std.proofs.lemmas.List.Elements.{All-nil, All-cons, All-weaker}
 use Rattle.graph_words.specs.declared.types.Vertex.{Vertex}
 use Rattle.graph_words.specs.declared.types.LabelId.{LabelId}
@@ -34,6 +35,22 @@ edges_are names (ws ∷ words) [] h = absurd h
 edges_are names (ws ∷ words) (e ∷ es) h =
     ap (λ o. cons_option o (filter_map (edge_of_words (distinct names)) words)) (edge_is names ws e h.0) ∙ ap (λ l. e ∷ l) (edges_are names words es h.1)
 
+-- each label has a name
+labels_named : (table : List (List ℕ)) (words : List (List (List ℕ))) (edges : List Edge) → AllZip (IsEdgeOf table) words edges → All (λ e. e.label.0 < length table) edges
+labels_named table words [] h = All-nil (λ (e : Edge). e.label.0 < length table)
+labels_named table [] (e ∷ es) h = absurd h
+labels_named table (ws ∷ words) (e ∷ es) h = All-cons (λ (e : Edge). e.label.0 < length table) e es (slice_get_within table e.label.0 h.0.label h.0.number) (labels_named table words es h.1)
+
+-- each vertex fits
+few_vertices : (table : List (List ℕ)) (words : List (List (List ℕ))) (edges : List Edge) → AllZip (IsEdgeOf table) words edges → vertex_count_of edges ≤ 16777216
+few_vertices table words [] h = omega arith
+few_vertices table [] (e ∷ es) h = absurd h
+few_vertices table (ws ∷ words) (e ∷ es) h =
+    let source = h.0.source_is.fits in
+    let destination = h.0.destination_is.fits in
+    let rest = few_vertices table words es h.1 in
+    omega arith
+
 -- what was read of a text without a fault
 pub ReadsEdges-from_says : (names : List (List ℕ)) (file : List ℕ) (edges : List Edge) (table : List (List ℕ)) → SaysEdges names (said (lines file)) edges table × (edges_fault names file ≡ None) → ReadsEdges names file edges table
 ReadsEdges-from_says names file edges table h =
@@ -43,6 +60,8 @@ ReadsEdges-from_says names file edges table h =
       whole = h.1;
       table_is = s.table_is;
       short = s.short;
+      vertices = few_vertices table (said (lines file)) edges s.each;
+      numbered = labels_named table (said (lines file)) edges s.each;
       edges_are = sym (edges_are _ (said (lines file)) edges each) ∙ ap (λ t. edges_of t file) (sym s.table_is);
     }
 

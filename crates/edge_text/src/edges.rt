@@ -3,7 +3,7 @@ ghost use Rattle.std.specs.Prelude.{◌≡◌, ◌<◌, ◌≤◌, ℕ, List, So
 ghost use Rattle.io_edge.specs.declared.kinds.InputKind.{InputKind as AKind};
 ghost use Rattle.io_edge.specs.Devices.{Rose};
 ghost use Rattle.graph_words.specs.Text.{distinct};
-ghost use Rattle.edge_text.specs.EdgesText.{edges_fault, ReadsEdges};
+ghost use Rattle.edge_text.specs.EdgesText.{edges_fault, ReadsFile};
 
 use crate::feed::{end_text, feed_piece};
 use graph_words::EdgeList;
@@ -54,8 +54,8 @@ fn read_text<I: Inputs>(
     requires short { length table.old ≤ 1000 }
     requires some { 0 < length piece.old }
     requires small { length piece.old ≤ 65536 }
-    ensures edges { IfOk result (λ edges. (file : List ℕ) (names : List (List ℕ)) → I.told inputs.old name.now ≡ Some file
-        → table.old ≡ distinct names → ReadsEdges names file edges table.new) }
+    ensures edges { IfOk result (λ edges. (names : List (List ℕ)) → table.old ≡ distinct names
+        → ReadsFile names (I.told inputs.old name.now) edges table.new) }
     ensures fault { IfErr result (λ e. (line : ℕ) (kind : AKind) (file : List ℕ) (names : List (List ℕ)) → e ≡ EdgesFault.Text line kind
         → I.told inputs.old name.now ≡ Some file → table.old ≡ distinct names → edges_fault names file ≡ Some (record { line = line; kind = kind })) }
     ensures failed { IfErr result (λ e. e ≡ EdgesFault.ReadFailed → Rose (I.faults inputs.old name.now) (I.faults inputs.new name.now)) }
@@ -97,8 +97,8 @@ pub fn read_edges<I: Inputs>(
     table: &mut LabelTable,
 ) -> Result<EdgeList, EdgesFault>
     requires { length table.old ≤ 1000 }
-    ensures edges { IfOk result (λ edges. (file : List ℕ) (names : List (List ℕ)) → I.told inputs.old name.now ≡ Some file
-        → table.old ≡ distinct names → ReadsEdges names file edges table.new) }
+    ensures edges { IfOk result (λ edges. (names : List (List ℕ)) → table.old ≡ distinct names
+        → ReadsFile names (I.told inputs.old name.now) edges table.new) }
     ensures fault { IfErr result (λ e. (line : ℕ) (kind : AKind) (file : List ℕ) (names : List (List ℕ)) → e ≡ EdgesFault.Text line kind
         → I.told inputs.old name.now ≡ Some file → table.old ≡ distinct names → edges_fault names file ≡ Some (record { line = line; kind = kind })) }
     ensures failed { IfErr result (λ e. e ≡ EdgesFault.ReadFailed → Rose (I.faults inputs.old name.now) (I.faults inputs.new name.now)) }

@@ -1,16 +1,18 @@
 -- The rules of a text whose lines say them.
-use Rattle.std.proofs.Common.{◌≡◌, ◌≢◌, ◌+◌, ◌<◌, ℕ, zero, suc, arith, get_or, List, [], ◌∷◌, length, map, sym, ap, ◌∙◌, subst, refl, Some, None}
+use Rattle.std.proofs.Common.{◌≡◌, ◌≢◌, ◌++◌, ◌+◌, ◌<◌, ℕ, zero, suc, arith, get_or, List, [], ◌∷◌, length, map, sym, ap, ◌∙◌, subst, refl, Some, None}
 use Rattle.std.specs.Prelude.{All, AllPairs, Any, slice_get}
 use Rattle.std.proofs.lemmas.List.{length-map, get_or_default}
 use Rattle.std.proofs.lemmas.List.Elements.{All-nil, All-cons, All-head, All-tail}
 use Rattle.std.specs.List.{filter_map, cons_option}
 use Rattle.graph_words.specs.declared.types.LabelId.{LabelId}
 use Rattle.graph_words.specs.declared.types.Rule.{Rule}
-use Rattle.graph_words.specs.Text.{distinct, said, place_of}
+use Rattle.graph_words.specs.Text.{distinct, said, with_names}
 use Rattle.graph_words.specs.Reach.{rule}
-use Rattle.graph_words.proofs.NameLemmas.{distinct-once, place_of-number}
+use Rattle.graph_words.proofs.NameLemmas.{Grown, distinct-append, distinct-once, place_of-number, with_names-grown}
+use Rattle.grammar_norm.proofs.NumberLemmas.{rules_stay}
+use Rattle.std.proofs.lemmas.Option.{slice_get_within}
 use Rattle.io_edge.specs.Lines.{lines}
-use Rattle.grammar_norm.specs.GrammarText.{HasPairsOnly, HasOtherShape, Numbers, ReadsGrammar, grammar_fault, label_of, labels, rule_of_words, rules_of}
+use Rattle.grammar_norm.specs.GrammarText.{grammar_names, HasPairsOnly, HasOtherShape, Numbers, ReadsGrammar, grammar_fault, label_of, labels, rule_of_words, rules_of}
 
 module _ (names : List (List ℕ)) (once : AllPairs (λ x y. x ≢ y) names) where
   label_is : (l : LabelId) (w : List ℕ) → slice_get names l.0 ≡ Some w → label_of names w ≡ l
@@ -41,11 +43,29 @@ module _ (names : List (List ℕ)) (once : AllPairs (λ x y. x ≢ y) names) whe
       let rest : map (λ r. map (λ l. slice_get names l.0) (labels r)) rules ≡ map (map Some) words = cc in
       ap (λ o. cons_option o (filter_map (rule_of_words names) words)) (rule_is r ws here) ∙ ap (λ l. r ∷ l) (rules_are rules words rest)
 
+-- each left side has a name
+lefts_named : (names : List (List ℕ)) (rules : List Rule) (words : List (List (List ℕ))) → map (λ r. map (λ l. slice_get names l.0) (labels r)) rules ≡ map (map Some) words → All (λ r. r.left.0 < length names) rules
+lefts_named names [] words e = All-nil (λ (r : Rule). r.left.0 < length names)
+lefts_named names (r ∷ rules) [] e = absurd (cc)
+lefts_named names (r ∷ rules) ([] ∷ words) e = absurd (cc)
+lefts_named names (r ∷ rules) ((w ∷ ws) ∷ words) e =
+    let here : slice_get names r.left.0 ≡ Some w = cc in
+    let rest : map (λ r. map (λ l. slice_get names l.0) (labels r)) rules ≡ map (map Some) words = cc in
+    All-cons (λ (r : Rule). r.left.0 < length names) r rules (slice_get_within names r.left.0 w here) (lefts_named names rules words rest)
+
 -- what was read of a text without a fault
 pub ReadsGrammar-from_numbers : (text : List ℕ) (rules : List Rule) (names : List (List ℕ)) → Numbers (said (lines text)) rules names → grammar_fault text ≡ None → ReadsGrammar text rules names
 ReadsGrammar-from_numbers text rules names n whole =
-    let once = subst (λ (t : List (List ℕ)). AllPairs (λ x y. x ≢ y) t) (sym n.table) (distinct-once _) in
-    record { whole = whole; names_are = n.table; short = n.short; rules_are = sym (rules_are names once rules (said (lines text)) n.numbered) }
+    record {
+      whole = whole;
+      names_are = n.table;
+      short = n.short;
+      rules_are = λ later.
+          let all = distinct (grammar_names text ++ later) in
+          let grown = subst (λ (t : List (List ℕ)). Grown names t) (sym (distinct-append (grammar_names text) later ∙ ap (λ t. with_names t later) (sym n.table))) (with_names-grown names later) in
+          sym (rules_are all (distinct-once _) rules (said (lines text)) (rules_stay names all grown rules (said (lines text)) n.numbered));
+      numbered = lefts_named names rules (said (lines text)) n.numbered;
+    }
 
 -- a rule line has a word for each label of its rule
 length_is : (names : List (List ℕ)) (r : Rule) (ws : List (List ℕ)) → map (λ l. slice_get names l.0) (labels r) ≡ map Some ws → length ws ≡ length r.right + 1

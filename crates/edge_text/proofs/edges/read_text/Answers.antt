@@ -1,8 +1,9 @@
-use Rattle.std.proofs.Common.{◌≡◌, [], sym, ap, ◌∙◌, refl, arith, ◌≤◌, length}
+use Rattle.std.proofs.Common.{◌≡◌, [], sym, ap, ◌∙◌, refl, arith, length}
 use Rattle.std.proofs.lemmas.Result.{err_from_is_err_and}
 use Rattle.io_edge.specs.Cutting.{Cutting}
 use Rattle.io_edge.proofs.DeviceLemmas.{Rose-later}
-use Rattle.edge_text.proofs.FeedLemmas.{reads_start, reads_on, reads_fault, reads_all, read_ended}
+use Rattle.edge_text.proofs.FeedLemmas.{reads_start, reads_on, reads_fault, reads_all}
+use Rattle.edge_text.specs.EdgesText.{edges_fault}
 use Rattle.edge_text.proofs.GraphLemmas.{ReadsEdges-from_says}
 use Rattle.edge_text.proofs.edges.read_text.Goals as goal
 
@@ -16,7 +17,7 @@ loop-edges-init g c =
       room = omega arith;
       kept = refl;
       count = λ k. omega arith;
-      feeds = λ file names t s. reads_start names c.args.table.now file c.in_ok-cutter.cutter.held c.new-edges.result.items s c.requires.short held c.new-edges.ensures.items;
+      feeds = λ names s. reads_start names c.args.table.now _ c.in_ok-cutter.cutter.held c.new-edges.result.items s c.requires.short held c.new-edges.ensures.items;
     }
 
 pub returns-in_err-n-clause-failed : goal.returns-in_err-n-clause-failed
@@ -33,10 +34,9 @@ loop-edges-preserved g c =
       room = c.in_ok-feed_piece.ensures.room.1;
       kept = c.in_ok-n.ensures.kept ∙ c.loop-edges.invariant.kept;
       count = λ k. let one = c.loop-edges.invariant.count k in let two = c.in_ok-n.ensures.others k in omega arith;
-      feeds = λ file names t s.
-          let told = ap (λ f. f c.args.name.now) c.loop-edges.invariant.kept ∙ t in
-          let gives = c.in_ok-n.ensures.bytes file told in
-          reads_on names file _ _ _ _ _ _ _ c.in_ok-n.n _ _ _ _ gives.within gives.bytes c.in_ok-feed_piece.ensures.place (c.loop-edges.invariant.feeds file names t s) (c.in_ok-feed_piece.ensures.ok names);
+      feeds = λ names s.
+          reads_on names _ _ c.read.new.buf _ _ c.in_ok-n.n _ _ (λ file t. c.in_ok-n.ensures.bytes file (ap (λ f. f c.args.name.now) c.loop-edges.invariant.kept ∙ t)) (c.loop-edges.invariant.feeds names s)
+          _ _ _ _ _ c.in_ok-n.ensures.count c.in_ok-feed_piece.ensures.place (c.in_ok-feed_piece.ensures.ok names);
     }
 
 pub returns-in_err-feed_piece-clause-fault : goal.returns-in_err-feed_piece-clause-fault
@@ -44,9 +44,8 @@ returns-in_err-feed_piece-clause-fault g c =
     let p = err_from_is_err_and c.from_residual-in_err-feed_piece.result c.from_residual-in_err-feed_piece.ensures.1 in
     rw (p.1, p.2)
     (λ line kind file names e t s.
-    let told = ap (λ f. f c.args.name.now) c.loop-edges.invariant.kept ∙ t in
-    let gives = c.in_ok-n.ensures.bytes file told in
-    reads_fault names file _ _ _ _ c.in_ok-n.n _ _ _ gives.bytes (c.loop-edges.invariant.feeds file names t s) (c.in_err-feed_piece.ensures.fault line kind e names))
+    reads_fault names _ _ c.read.new.buf _ _ c.in_ok-n.n _ _ (λ file t. c.in_ok-n.ensures.bytes file (ap (λ f. f c.args.name.now) c.loop-edges.invariant.kept ∙ t)) (c.loop-edges.invariant.feeds names s)
+    _ (c.in_err-feed_piece.ensures.fault line kind e names) file t)
 
 pub returns-in_err-feed_piece-clause-failed : goal.returns-in_err-feed_piece-clause-failed
 returns-in_err-feed_piece-clause-failed g c =
@@ -58,10 +57,11 @@ returns-in_err-end_text-clause-fault g c =
     let p = err_from_is_err_and c.from_residual-in_err-end_text.result c.from_residual-in_err-end_text.ensures.1 in
     rw (p.1, p.2)
     (λ line kind file names e t s.
-    let told = ap (λ f. f c.args.name.now) c.loop-edges.invariant.kept ∙ t in
-    let gives = c.in_ok-n.ensures.bytes file told in
-    let ended = read_ended file c.read.new.buf c.loop-edges.place c.in_ok-n.n gives.some (omega (arith, c.read.auto.buf, c.loop-edges.auto.piece, c.requires.some)) c.if-n-eq0.true in
-    c.in_err-end_text.ensures.fault line kind e names file (reads_all names file _ _ _ _ _ ended (c.loop-edges.invariant.feeds file names t s)))
+    let r = c.loop-edges.invariant.feeds names s in
+    let all =
+    reads_all names _ _ c.read.new.buf _ _ c.in_ok-n.n _ _ (λ file t. c.in_ok-n.ensures.bytes file (ap (λ f. f c.args.name.now) c.loop-edges.invariant.kept ∙ t)) r
+    (omega (arith, c.read.auto.buf, c.loop-edges.auto.piece, c.requires.some)) c.if-n-eq0.true file t in
+    sym (ap (edges_fault names) all) ∙ c.in_err-end_text.ensures.fault line kind e names r.text r.feeds)
 
 pub returns-in_err-end_text-clause-failed : goal.returns-in_err-end_text-clause-failed
 returns-in_err-end_text-clause-failed g c =
@@ -70,9 +70,13 @@ returns-in_err-end_text-clause-failed g c =
 
 pub returns-clause-edges : goal.returns-clause-edges
 returns-clause-edges g c =
-    λ file names t s.
-    let told = ap (λ f. f c.args.name.now) c.loop-edges.invariant.kept ∙ t in
-    let gives = c.in_ok-n.ensures.bytes file told in
-    let ended = read_ended file c.read.new.buf c.loop-edges.place c.in_ok-n.n gives.some (omega (arith, c.read.auto.buf, c.loop-edges.auto.piece, c.requires.some)) c.if-n-eq0.true in
+    λ names s.
+    let r = c.loop-edges.invariant.feeds names s in
     rw c.from_vec.ensures
-    (ReadsEdges-from_says names file _ _ (c.in_ok-end_text.ensures.ok names file (reads_all names file _ _ _ _ _ ended (c.loop-edges.invariant.feeds file names t s))))
+    (record {
+      text = r.text;
+      reads = ReadsEdges-from_says names r.text _ _ (c.in_ok-end_text.ensures.ok names r.text r.feeds);
+      is_file =
+          reads_all names _ _ c.read.new.buf _ _ c.in_ok-n.n _ _ (λ file t. c.in_ok-n.ensures.bytes file (ap (λ f. f c.args.name.now) c.loop-edges.invariant.kept ∙ t)) r
+          (omega (arith, c.read.auto.buf, c.loop-edges.auto.piece, c.requires.some)) c.if-n-eq0.true;
+    })

@@ -13,7 +13,7 @@ invariant-loop-edges g l =
       room : l.place ≤ 1099511627776 + length l.cutter.held;
       kept : g.I.Inputs.told l.inputs ≡ g.I.Inputs.told l.initial.inputs;
       count : (k : List ℕ) → g.I.Inputs.faults l.initial.inputs k ≤ g.I.Inputs.faults l.inputs k;
-      feeds : (file : List ℕ) (names : List (List ℕ)) → g.I.Inputs.told l.initial.inputs l.name ≡ Some file → l.fn.table ≡ distinct names → IsReadTo names file l.cutter.held l.lines l.place l.edges.items l.table;
+      feeds : (names : List (List ℕ)) → l.fn.table ≡ distinct names → IsReadTo names (g.I.Inputs.told l.initial.inputs l.name) l.cutter.held l.lines l.place l.edges.items l.table;
     }
 
 abbrev pub decreases-loop-edges : goal.decreases-loop-edges
