@@ -1,5 +1,6 @@
 -- The graph of a text whose lines say these edges.
-use Rattle.std.proofs.Common.{◌≡◌, ℕ, ◌+◌, ◌<◌, ◌≤◌, max, List, [], ◌∷◌, ◌++◌, length, sym, ap, ◌∙◌, subst, refl, arith, Some, None}
+use Rattle.std.proofs.Common.{◌≡◌, ℕ, ◌+◌, ◌<◌, ◌≤◌, max, drop, List, [], ◌∷◌, ◌++◌, length, sym, ap, ◌∙◌, subst, refl, arith, Some, None}
+use Rattle.std.proofs.Math.ListN.{drop_of_length-le}
 use Rattle.std.specs.Prelude.{All}
 use Rattle.std.specs.List.{AllZip, filter_map, cons_option}
 use Rattle.std.specs.Str.Parse.{digits_value}
@@ -72,3 +73,10 @@ below (e ∷ es) n h = All-cons (λ x. (x.src.0 < n) × (x.dst.0 < n)) e es (ome
 
 pub IsGraph-with_count : (edges : List Edge) → IsGraph (graph_with (vertex_count_of edges) edges)
 IsGraph-with_count edges = below edges (vertex_count_of edges) (omega arith)
+
+-- the count after the last edge is that of all
+pub IsGraph-counted : (edges : List Edge) (count i : ℕ) → length edges ≤ i → max count (vertex_count_of (drop i edges)) ≡ vertex_count_of edges → IsGraph (graph_with count edges)
+IsGraph-counted edges count i past is =
+    let none = ap vertex_count_of (drop_of_length-le edges past) in
+    let all : count ≡ vertex_count_of edges = omega arith in
+    subst (λ (n : ℕ). IsGraph (graph_with n edges)) (sym all) (IsGraph-with_count edges)

@@ -1,12 +1,13 @@
 //! The edges of a file, which is read piece by piece.
-ghost use Rattle.std.specs.Prelude.{◌≡◌, ◌<◌, ◌≤◌, ℕ, List, Some, IfOk, IfErr, length};
+ghost use Rattle.std.specs.Prelude.{◌≡◌, ◌<◌, ◌≤◌, ◌^◌, ℕ, List, Some, IfOk, IfErr, length};
 ghost use Rattle.io_edge.specs.declared.kinds.InputKind.{InputKind as AKind};
 ghost use Rattle.io_edge.specs.Devices.{Rose};
+ghost use Rattle.graph_words.specs.Reach.{graph_with, IsGraph};
 ghost use Rattle.graph_words.specs.Text.{distinct};
-ghost use Rattle.edge_text.specs.EdgesText.{edges_fault, ReadsFile};
+ghost use Rattle.edge_text.specs.EdgesText.{edges_fault, vertex_count_of, ReadsFile};
 
 use crate::feed::{end_text, feed_piece};
-use graph_words::EdgeList;
+use graph_words::{Edge, EdgeList};
 use io_edge::{Failed, InputKind, Inputs, LineCutter};
 use label_table::LabelTable;
 use std::alloc::{AllocError, Global};
@@ -107,4 +108,17 @@ pub fn read_edges<I: Inputs>(
 {
     let mut piece = Vec::from_elem(alloc, 0, PIECE_LEN)?;
     read_text(alloc, inputs, name, table, &mut piece)
+}
+
+/// How many vertices a graph with these edges has: one more than the greatest vertex on an edge, and 0 where there is none.
+pub fn vertex_count(edges: &[Edge]) -> u32
+    requires { vertex_count_of edges.now < 2 ^ 32 }
+    ensures count { result ≡ vertex_count_of edges.now }
+    ensures graph { IsGraph (graph_with result edges.now) }
+{
+    let mut count = 0;
+    for edge in edges {
+        count = count.max(edge.src.0 + 1).max(edge.dst.0 + 1);
+    }
+    count
 }

@@ -1,3 +1,4 @@
 pub mod Codes
 pub mod Words
 pub mod Headline
+pub mod Stages

@@ -5,6 +5,7 @@ ghost use Rattle.graspan_top.specs.Words.{is_file_word as names_file, reading};
 use io_edge::WordList;
 
 /// The names of the files that a run takes.
+#[derive(Clone, Copy)]
 pub(crate) struct Files<'a> {
     pub(crate) edges: &'a str,
     pub(crate) grammar: &'a str,
