@@ -1,0 +1,73 @@
+//! Files of the system as inputs: the trusted edge. No clause says what they hold.
+ghost use Rattle.std.specs.Prelude.{◌≡◌, ◌+◌, ◌<◌, ◌≤◌, ◌^◌, None, IfOk, length};
+
+use io_edge::{Failed, Inputs};
+use std::fs::File;
+use std::io;
+use std::io::{Read, Seek, SeekFrom};
+use std::rt::Files;
+
+/// A file that is open, and the place from which its next read gives bytes.
+#[derive(Drop)]
+struct OpenFile<F: Drop> {
+    name: String,
+    file: F,
+    place: u64,
+}
+
+/// Files of the system by their paths. The one that was read last is kept open, so that a pipe can be read too.
+#[derive(Drop)]
+pub(crate) struct FsInputs<'a, R: Files + AllocGlobal> {
+    rt: &'a R,
+    last: Option<OpenFile<R::File>>,
+    faults: u64,
+}
+
+impl<'a, R: Files + AllocGlobal> FsInputs<'a, R> {
+    /// No file is open yet.
+    pub(crate) fn new(rt: &'a R) -> Self {
+        FsInputs {
+            rt,
+            last: None,
+            faults: 0,
+        }
+    }
+
+    fn read_at(&mut self, name: &str, at: u64, buf: &mut [u8]) -> io::Result<usize>
+        requires { at + length buf.old < 2 ^ 64 }
+        ensures count { IfOk result (λ n. n ≤ length buf.new) }
+        ensures faults { self.new.faults ≡ self.old.faults }
+    {
+        let mut open = match self.last.take() {
+            Some(open) if open.name.as_str() == name => open,
+            _ => OpenFile {
+                name: String::from_str(self.rt.alloc(), name)?,
+                file: File::open(self.rt, name)?,
+                place: 0,
+            },
+        };
+        if open.place != at {
+            open.file.seek(SeekFrom::Start(at))?;
+        }
+        let n = open.file.read(buf)?;
+        open.place = at + n as u64;
+        self.last = Some(open);
+        Ok(n)
+    }
+}
+
+impl<R: Files + AllocGlobal> Inputs for FsInputs<'_, R> {
+    ghost told = { λ _ _. None };
+
+    ghost faults = { λ f _. f.faults };
+
+    fn read(&mut self, name: &str, at: u64, buf: &mut [u8]) -> Result<usize, Failed> {
+        match self.read_at(name, at, buf) {
+            Ok(n) => Ok(n),
+            Err(_) => {
+                self.faults = self.faults.saturating_add(1);
+                Err(Failed)
+            }
+        }
+    }
+}
