@@ -28,6 +28,7 @@ pub enum EdgesFault {
 
 impl From<Failed> for EdgesFault {
     ghost use Rattle.edge_text.specs.declared.edges.EdgesFault.TheVariants.{ReadFailed};
+
     ghost from_gives = { λ _ e. e ≡ ReadFailed };
 
     fn from(_: Failed) -> Self {
@@ -37,6 +38,7 @@ impl From<Failed> for EdgesFault {
 
 impl From<AllocError> for EdgesFault {
     ghost use Rattle.edge_text.specs.declared.edges.EdgesFault.TheVariants.{NoMemory};
+
     ghost from_gives = { λ _ e. e ≡ NoMemory };
 
     fn from(_: AllocError) -> Self {

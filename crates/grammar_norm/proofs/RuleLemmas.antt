@@ -12,7 +12,7 @@ use Rattle.graph_words.proofs.NameLemmas.{Grown, distinct-append, distinct-once,
 use Rattle.grammar_norm.proofs.NumberLemmas.{rules_stay}
 use Rattle.std.proofs.lemmas.Option.{slice_get_within}
 use Rattle.io_edge.specs.Lines.{lines}
-use Rattle.grammar_norm.specs.GrammarText.{grammar_names, HasPairsOnly, HasOtherShape, Numbers, ReadsGrammar, grammar_fault, label_of, labels, rule_of_words, rules_of}
+use Rattle.grammar_norm.specs.GrammarText.{grammar_names, HasPairsOnly, HasOtherShape, Numbers, ReadsGrammar, grammar_fault, label_of, labels, rule_of_words}
 
 module _ (names : List (List ℕ)) (once : AllPairs (λ x y. x ≢ y) names) where
   label_is : (l : LabelId) (w : List ℕ) → slice_get names l.0 ≡ Some w → label_of names w ≡ l

@@ -1,5 +1,5 @@
 -- The steps of a run.
-use Rattle.std.proofs.Common.{◌≡◌, ◌⊎◌, inl, inr, ℕ, ◌+◌, ◌<◌, ◌≤◌, List, [], ◌∷◌, ◌++◌, length, take, drop, Option, Some, None, sym, ap, ◌∙◌, subst, arith}
+use Rattle.std.proofs.Common.{◌≡◌, ◌⊎◌, inl, inr, ℕ, ◌<◌, ◌≤◌, List, [], ◌∷◌, ◌++◌, length, drop, Option, Some, None, sym, ap, ◌∙◌, subst, arith}
 use Rattle.std.specs.Prelude.{All, Contains, IsSome}
 use Rattle.std.specs.List.{flat_map}
 use Rattle.std.proofs.lemmas.List.{take-append-drop}
@@ -15,11 +15,11 @@ use Rattle.graph_words.proofs.ReachLaws.{Reach-start, Reach-end, Reach-label}
 use Rattle.io_edge.specs.declared.kinds.InputFile.TheVariants.{Grammar, Edges, Source}
 use Rattle.io_edge.specs.FirstFault.{Fault}
 use Rattle.io_edge.specs.Lines.{lines}
-use Rattle.io_edge.specs.Reading.{ReadsWhole, PassesLimit}
+use Rattle.io_edge.specs.Reading.{ReadsWhole}
 use Rattle.io_edge.proofs.FaultLemmas.{long_text_has_fault}
 use Rattle.edge_text.specs.EdgesText.{ReadsFile, edges_fault, edges_of, graph_of, vertex_count_of}
 use Rattle.edge_text.proofs.GraphLemmas.{IsGraph-with_count}
-use Rattle.grammar_norm.specs.GrammarText.{grammar_fault, grammar_names, rule_fault, rules_of, HasOtherShape}
+use Rattle.grammar_norm.specs.GrammarText.{grammar_fault, grammar_names, rule_fault, rules_of}
 use Rattle.graspan_top.specs.declared.status.Status.{Status}
 use Rattle.graspan_top.specs.declared.status.Status.TheVariants.{Done, Words, InputFault, ReadFault, WriteFault, NoMemory, RuleShape}
 use Rattle.graspan_top.specs.Words.{Files}

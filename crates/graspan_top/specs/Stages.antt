@@ -2,7 +2,7 @@
 use Rattle.std.specs.Prelude.{◌≡◌, ℕ, ◌<◌, ◌≤◌, List, All, Option, IsSome, None, length, ◌⊎◌}
 use Rattle.graph_words.specs.declared.types.Edge.{Edge}
 use Rattle.graph_words.specs.declared.types.Rule.{Rule}
-use Rattle.io_edge.specs.declared.kinds.InputFile.TheVariants.{Grammar, Edges, Source}
+use Rattle.io_edge.specs.declared.kinds.InputFile.TheVariants.{Grammar, Edges}
 use Rattle.edge_text.specs.EdgesText.{edges_fault, graph_of}
 use Rattle.grammar_norm.specs.GrammarText.{grammar_fault, grammar_names, rules_of, HasPairsOnly, HasOtherShape, ReadsGrammar}
 use Rattle.graspan_top.specs.declared.status.Status.{Status}

@@ -7,7 +7,7 @@ use Rattle.graph_words.specs.Text.{words, is_skipped}
 use Rattle.io_edge.specs.declared.kinds.InputKind.{InputKind}
 use Rattle.io_edge.specs.declared.kinds.InputKind.TheVariants.{LineTooLong, TooLong}
 use Rattle.io_edge.specs.Lines.{is_line_feed, segments, line, without_end}
-use Rattle.io_edge.specs.FirstFault.{Fault, fault_or, line_fault, with_line, first_fault, HasFaultAnyway}
+use Rattle.io_edge.specs.FirstFault.{fault_or, line_fault, with_line, first_fault, HasFaultAnyway}
 use Rattle.io_edge.proofs.SegmentLemmas.{HasNoFeed, segments_at, segments_long}
 
 -- a segment that is short and ends within the limit has the fault of its words
@@ -41,10 +41,10 @@ within_limit limit kind before end s none = go (nat_lt 4096 (length (without_end
     go true true p q = let h = sym (ap (λ t. cond t (Some LineTooLong) (cond (nat_lt limit end) (Some TooLong) (cond (is_skipped (words (line s))) None (kind before (words (line s)))))) p) ∙ none in absurd (cc)
     go false true p q =
         let h =
-            sym
-            (ap (λ t. cond t (Some LineTooLong) (cond (nat_lt limit end) (Some TooLong) (cond (is_skipped (words (line s))) None (kind before (words (line s)))))) p
-            ∙ ap (λ t. cond t (Some TooLong) (cond (is_skipped (words (line s))) None (kind before (words (line s))))) q)
-            ∙ none in
+        sym
+        (ap (λ t. cond t (Some LineTooLong) (cond (nat_lt limit end) (Some TooLong) (cond (is_skipped (words (line s))) None (kind before (words (line s)))))) p
+        ∙ ap (λ t. cond t (Some TooLong) (cond (is_skipped (words (line s))) None (kind before (words (line s))))) q)
+        ∙ none in
         absurd (cc)
 
 -- a first line with its line feed, and the rest

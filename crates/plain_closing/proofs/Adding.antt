@@ -163,6 +163,7 @@ IsJoining-step rules n first second before now after r p q h is g a =
   where
     P : Rule → Type 0
     P x = Applies x first second → Contains after (edge first.src x.left second.dst)
+
     step : AddsMade rules now after
     step =
         AddsJoin-made rules r first second now after (subst (λ (x : Rule). Contains rules x) (sym is) (Contains-get_or rules n r h))

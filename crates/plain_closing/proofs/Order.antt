@@ -1,5 +1,5 @@
 -- What a sort says of edges that stand once.
-use Rattle.std.proofs.Common.{sym, refl, ◌∙◌, true, ◌≡◌, ◌≢◌, ◌⊎◌, ℕ, ◌<◌, ◌≤◌, List, Bool, false, ◌&&◌, eqb, get_or, nat_cmp, is_lt, Ordering, arith, rules, inl, inr}
+use Rattle.std.proofs.Common.{sym, refl, ◌∙◌, true, ◌≡◌, ◌≢◌, ◌⊎◌, ℕ, ◌<◌, ◌≤◌, List, Bool, false, ◌&&◌, eqb, get_or, nat_cmp, is_lt, arith, rules, inl, inr}
 use Rattle.std.specs.Prelude.{IsSorted, IsPermutation}
 use Rattle.std.specs.Bool.{Decides}
 use Rattle.std.specs.Cmp.{IsTotalOrder}

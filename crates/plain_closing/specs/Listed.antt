@@ -1,4 +1,4 @@
-use Rattle.std.specs.Prelude.{ℕ, List, Contains, IsTrue, ◌↔◌}
+use Rattle.std.specs.Prelude.{List, Contains, IsTrue, ◌↔◌}
 use Rattle.std.specs.declared.cmp.Ordering.{Ordering}
 use Rattle.std.specs.Ordering.{nat_cmp, ordering_then}
 use Rattle.std.specs.BTreeSet.{BTreeSet, contains}

@@ -44,4 +44,3 @@ pub fn closure(
     listed.sort()?;
     Ok(EdgeList::from_vec(listed))
 }
-

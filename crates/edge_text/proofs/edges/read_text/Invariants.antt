@@ -1,4 +1,4 @@
-use Rattle.std.proofs.Common.{◌≡◌, ℕ, ◌+◌, ◌-◌, ◌^◌, ◌≤◌, List, [], Some, length, take}
+use Rattle.std.proofs.Common.{◌≡◌, ℕ, ◌+◌, ◌-◌, ◌^◌, ◌≤◌, List, length}
 use Rattle.io_edge.specs.declared.step.Phase.TheVariants.{Open}
 use Rattle.graph_words.specs.Text.{distinct}
 use Rattle.edge_text.proofs.FeedLemmas.{IsReadTo}

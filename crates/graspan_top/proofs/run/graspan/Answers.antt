@@ -1,4 +1,4 @@
-use Rattle.std.proofs.Common.{◌≡◌, subst}
+use Rattle.std.proofs.Common.{subst}
 use Rattle.io_edge.specs.Devices.{Rose}
 use Rattle.graspan_top.specs.Words.{Files}
 use Rattle.graspan_top.specs.Headline.{Explains, Prints}

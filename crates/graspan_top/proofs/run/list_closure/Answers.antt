@@ -1,4 +1,4 @@
-use Rattle.std.proofs.Common.{◌≡◌, ℕ, List, Option, ap, ◌∙◌, subst}
+use Rattle.std.proofs.Common.{ℕ, List, Option, ap, ◌∙◌, subst}
 use Rattle.std.proofs.lemmas.Result.{err_from_is_err_and}
 use Rattle.io_edge.proofs.DeviceLemmas.{Rose-later}
 use Rattle.edge_text.specs.EdgesText.{ReadsFile, vertex_count_of}

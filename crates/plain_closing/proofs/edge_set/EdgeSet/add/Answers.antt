@@ -1,4 +1,4 @@
-use Rattle.std.proofs.Common.{◌≡◌, [], ◌∷◌, ◌++◌, List, sym, ◌∙◌, ap, subst}
+use Rattle.std.proofs.Common.{[], ◌∷◌, ◌++◌, List, sym, ◌∙◌, ap, subst}
 use Rattle.graph_words.specs.declared.types.Edge.{Edge}
 use Rattle.plain_closing.specs.Listed.{IsListed}
 use Rattle.plain_closing.proofs.ListedLemmas.{IsListed-push, negated, negated_not, AddsNew-absent, AddsNew-present}
