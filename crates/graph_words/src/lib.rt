@@ -10,3 +10,6 @@ pub use laws::{closed_set_has_reach, derivation_splits, paths_append, reach_grow
 pub use line_words::{is_skipped, next_word, words_of};
 pub use text::{distinct_grows, is_label};
 pub use types::{Born, Edge, EdgeList, LabelId, PairRule, Rule, Vertex, Word};
+
+#[cfg(test)]
+mod tests;

@@ -6,3 +6,6 @@ mod edge_set;
 mod joins;
 
 pub use closing::closure;
+
+#[cfg(test)]
+mod tests;
