@@ -41,7 +41,7 @@ fn a_file_is_read_with_its_labels_numbered(rt: HostRuntime) -> Result<(), Fail> 
     let alloc = rt.alloc();
     let mut table = LabelTable::new(alloc);
     let mut inputs = one_file(alloc, b"0 1 a\r\n0\t1  a\n# note\n\n 2 4 b")?;
-    let edges = read_edges(alloc, &mut inputs, "e", &mut table).map_err(|_| Fail)?;
+    let edges = read_edges(alloc, &mut inputs, "e", &mut table)?;
     assert_eq!(rt; edges.as_slice().len(), 3);
     assert_eq!(rt; table.len(), 2);
     let mut inputs = one_file(alloc, b"0 1 a\n0 1\n")?;

@@ -2,6 +2,8 @@
 #![tactic(auto)]
 
 mod fs_inputs;
+#[cfg(test)]
+mod tests;
 mod words;
 
 use fs_inputs::FsInputs;

@@ -8,3 +8,6 @@ mod words;
 
 pub use run::graspan;
 pub use status::Status;
+
+#[cfg(test)]
+mod tests;

@@ -1,0 +1,119 @@
+use super::*;
+use io_edge::{InputFile, MemInputs, MemSink, NamedBytes, WordList};
+use std::alloc::Global;
+use std::test::Fail;
+
+/// The file `e` with these edges and the file `g` with this grammar.
+fn two_files(alloc: Global, edges: &[u8], grammar: &[u8]) -> Result<MemInputs, Fail> {
+    let mut files = Vec::new(alloc);
+    for (name, bytes) in [("e", edges), ("g", grammar)] {
+        let name = String::from_str(alloc, name)?;
+        let bytes = bytes.to_vec(alloc)?;
+        files.push(NamedBytes { name, bytes })?;
+    }
+    Ok(MemInputs::new(files))
+}
+
+fn word_list(alloc: Global, words: &[&str]) -> Result<WordList, Fail> {
+    let mut list = WordList::new(alloc);
+    for word in words {
+        list.push(word)?;
+    }
+    Ok(list)
+}
+
+// Worked out by hand.
+#[test]
+fn a_run_prints_the_closure_or_one_line(rt: HostRuntime) -> Result<(), Fail> {
+    let alloc = rt.alloc();
+    let words = word_list(alloc, &["run", "e", "g"])?;
+    for (edges, grammar, printed, code) in [
+        (
+            b"0 1 a\n1 2 b\n".as_slice(),
+            b"S a b\n".as_slice(),
+            b"0 2 S\n0 1 a\n1 2 b\n".as_slice(),
+            0,
+        ),
+        (
+            b"0 1 a\n1 0 a\n",
+            b"a a a\n",
+            b"0 0 a\n0 1 a\n1 0 a\n1 1 a\n",
+            0,
+        ),
+        (b"0 1 a\n1 2 b\n", b"S a\n", b"fault rule shape\n", 12),
+        (b"0 1 a\n0 1\n", b"S a b\n", b"fault input edges\n", 2),
+        (b"0 1 a\n", b"S a \x01\n", b"fault input grammar\n", 2),
+        // No edge at all, a loop, and lines that say an edge twice.
+        (b"", b"S a b\n", b"", 0),
+        (b"3 3 a\n", b"S a a\n", b"3 3 S\n3 3 a\n", 0),
+        (
+            b"0 1 a\r\n0\t1 a\n# note\n\n1 2 a",
+            b"S a a\n",
+            b"0 2 S\n0 1 a\n1 2 a\n",
+            0,
+        ),
+        // New joins of new edges: one edge from each vertex of a chain to each later one.
+        (
+            b"0 1 a\n1 2 a\n2 3 a\n",
+            b"a a a\n",
+            b"0 1 a\n0 2 a\n0 3 a\n1 2 a\n1 3 a\n2 3 a\n",
+            0,
+        ),
+    ] {
+        let mut out = MemSink::new(alloc);
+        let status = graspan(
+            alloc,
+            &words,
+            &mut two_files(alloc, edges, grammar)?,
+            &mut out,
+        );
+        assert_eq!(rt; out.bytes(), printed);
+        assert_eq!(rt; status.code(), code);
+    }
+    Ok(())
+}
+
+#[test]
+fn words_without_a_reading_are_refused(rt: HostRuntime) -> Result<(), Fail> {
+    let alloc = rt.alloc();
+    for words in [
+        [].as_slice(),
+        &["run", "e"],
+        &["go", "e", "g"],
+        &["run", "e", "-g"],
+        &["run", "", "g"],
+        &["run", "e", "g", "g"],
+    ] {
+        let mut out = MemSink::new(alloc);
+        let words = word_list(alloc, words)?;
+        let status = graspan(alloc, &words, &mut two_files(alloc, b"", b"")?, &mut out);
+        assert_eq!(rt; status, Status::Words);
+        assert_eq!(rt; out.bytes(), b"fault words\n".as_slice());
+    }
+    Ok(())
+}
+
+#[test]
+fn a_failing_read_and_a_failing_write_are_told(rt: HostRuntime) -> Result<(), Fail> {
+    let alloc = rt.alloc();
+    let words = word_list(alloc, &["run", "e", "g"])?;
+    for call in 0..4 {
+        let mut inputs = two_files(alloc, b"0 1 a\n1 2 b\n", b"S a b\n")?;
+        inputs.fail_calls(vec![in alloc; call]?);
+        let mut out = MemSink::new(alloc);
+        assert_eq!(rt;
+            graspan(alloc, &words, &mut inputs, &mut out),
+            Status::ReadFault
+        );
+        assert_eq!(rt; out.bytes(), b"fault read\n".as_slice());
+    }
+    let mut out = MemSink::new(alloc);
+    out.fail_calls(vec![in alloc; 1]?);
+    let mut inputs = two_files(alloc, b"0 1 a\n1 2 b\n", b"S a b\n")?;
+    assert_eq!(rt;
+        graspan(alloc, &words, &mut inputs, &mut out),
+        Status::WriteFault
+    );
+    assert_eq!(rt; out.bytes(), b"0 2 S\n".as_slice());
+    Ok(())
+}
