@@ -89,7 +89,6 @@ reads_after (cut file len false) s seen reads f = reads f ∙ sym (at_file-seen 
 reads_after (sync true) s seen reads f = reads f
 reads_after (sync false) s seen reads f = reads f
 
-
 allowed_images : (calls : List Call) (s : States) (seen : Contents) (images : Contents → Type 0) → AllSound s → ((f : ℕ) → seen f ≡ (s f).seen) → ((c : Contents) → images c → IsImage s c) → ((c : Contents) → IsImage s c → images c)
     → (c : Contents) → (allowed seen images calls c → IsImage (replay s calls) c) × (IsImage (replay s calls) c → allowed seen images calls c)
 unfolding allowed replay

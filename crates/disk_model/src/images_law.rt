@@ -13,5 +13,4 @@ ghost use Rattle.disk_model.specs.Allowed.{SameImages};
 /// just what a read gives after a sync.
 pub fn same_images()
     ensures { (base : Contents) (calls : List Call) (c : Contents) → SameImages base calls c }
-{
-}
+{}
