@@ -1,11 +1,10 @@
 -- The images by the definition are just those that the clauses of the calls allow.
-use Rattle.std.proofs.Common.{◌≡◌, ◌≢◌, ◌⊎◌, inl, inr, ℕ, ◌+◌, ◌<◌, ◌≤◌, min, max, Bool, true, false, if◌then◌else◌, ◌==◌, List, [], ◌∷◌, ◌++◌, length, take, slice_index, refl, sym, ◌∙◌, ap, subst, arith, length-take}
-use Rattle.std.proofs.lemmas.Bool.{cases_eq, cases_lt}
-use Rattle.std.proofs.lemmas.Bool.Decides.{nat_tests}
-use Rattle.disk_model.specs.Disk.{Contents, written, Torn, Shortened, TornIn, ShortenedIn}
-use Rattle.disk_model.specs.Calls.{Call, write, cut, sync, FileState, States, synced, synced_all, after_write, after_cut, at_file, after, replay, touched, IsFileImage, IsImage, contents}
-use Rattle.disk_model.specs.Allowed.{seen_after, allowed_after, allowed, IsAllowed, SameImages}
-use Rattle.disk_model.specs.Sound.{IsSound, AllSound, sound_after, sound_synced_all, written-empty, length-written, written-lengths, touched-push, at_file-here, at_file-other, at_file-each, at_file-seen, synced_image}
+use Rattle.std.proofs.Common.{◌≡◌, ◌≢◌, inl, inr, ℕ, ◌<◌, Bool, true, false, if◌then◌else◌, ◌==◌, List, [], ◌∷◌, length, take, slice_index, refl, sym, ◌∙◌, ap, subst, arith, length-take}
+use Rattle.std.proofs.lemmas.Bool.{cases_lt}
+use Rattle.disk_model.specs.Disk.{Contents, written, Torn, Shortened}
+use Rattle.disk_model.specs.Calls.{Call, write, cut, sync, FileState, States, synced, synced_all, after_write, after_cut, at_file, after, replay, IsFileImage, IsImage, contents}
+use Rattle.disk_model.specs.Allowed.{seen_after, allowed_after, allowed, SameImages}
+use Rattle.disk_model.specs.Sound.{IsSound, AllSound, sound_after, sound_synced_all, length-written, written-lengths, touched-push, at_file-each, at_file-seen, synced_image}
 use Rattle.disk_model.proofs.Follows.{write_follows, cut_follows, sync_leaves_just, sync_no_more}
 
 -- a torn write of an image is an image after the write

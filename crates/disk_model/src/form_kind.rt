@@ -1,10 +1,9 @@
 //! What breaks in a store.
 
-/// What breaks in a store: the rule of a file format, or of the store as a whole, that the bytes
-/// do not keep.
+/// The rule that the bytes of a store break: of a file format, or of the store as a whole.
 #[derive(Clone, Copy, Debug, PartialEq, Eq)]
 pub enum FormKind {
-    /// The file does not begin with its mark.
+    /// A file does not begin with the mark of its format.
     BadMagic,
     /// The bytes end inside a field.
     Short,
@@ -12,30 +11,30 @@ pub enum FormKind {
     Extra,
     /// A number is out of its range.
     BadNumber,
-    /// A label is no name, or its number is not known.
+    /// A name is no label, or a label's number stands for none.
     BadLabel,
-    /// Two labels have one name.
+    /// Two named labels have one name.
     RepeatedLabel,
-    /// The intervals of the partitions do not cover the vertices in order.
+    /// There are too many partitions or none, or their intervals do not cover the vertices in order.
     BadParts,
-    /// A partition's file number is not free for it.
+    /// The file of a partition has a number that no partition may have, or that another one has.
     BadFile,
-    /// A count of edges is not what it should be.
+    /// A count of edges between two partitions is more than there can be.
     BadCount,
-    /// A mark of a pair of partitions is too great.
+    /// A mark is above the round, or a newest birth is not below it.
     BadMark,
-    /// The interval of a partition is not the one that was expected.
+    /// A partition file has another interval than its partition.
     BadBounds,
-    /// Edges are not in ascending order.
+    /// The edges of a row do not ascend.
     BadOrder,
-    /// A vertex is out of the range of the graph, or of its interval.
+    /// A vertex is none of the graph's.
     BadVertex,
     /// A birth is not below the round.
     BadBirth,
-    /// A kept text has a fault.
+    /// The copy of a text has a fault, or is not the one that was kept.
     BadText,
-    /// The counts of a partition's edges differ from those of the manifest.
+    /// A partition has other counts, or another newest birth, than the manifest says.
     Counts,
-    /// Two open slots have equal generations.
+    /// Two open slots have one generation.
     Generations,
 }

@@ -1,7 +1,7 @@
 //! A disk that isn't there.
-ghost use Rattle.std.specs.Prelude.{◌≡◌, ◌≤◌, ◌+◌, ◌-◌, ◌^◌, min, ℕ, false, []};
+ghost use Rattle.std.specs.Prelude.{◌≡◌, ℕ, false, [], IsErr};
 ghost use Rattle.std.proofs.lemmas.Bool.{false≢true};
-ghost use Rattle.disk_model.specs.Disk.{Contents};
+ghost use Rattle.disk_model.specs.Disk.{Contents, HasFailed};
 
 use crate::disk::{Disk, Failed};
 
@@ -29,8 +29,7 @@ impl NoDisk {
     }
 
     fn fail(&mut self) -> Failed
-        ensures rose { min (self.old.faults + 1) (2 ^ 64 - 1) ≤ self.new.faults }
-        ensures later { self.old.faults ≤ self.new.faults }
+        ensures { HasFailed self.old.faults self.new.faults }
     {
         self.faults = self.faults.saturating_add(1);
         Failed
@@ -60,23 +59,38 @@ impl Disk for NoDisk {
 
     ghost only_now = { λ disk c image. image };
 
-    fn len(&mut self, _file: u32) -> Result<u64, Failed> {
+    fn len(&mut self, _file: u32) -> Result<u64, Failed>
+        ensures fails { IsErr result }
+        ensures count { HasFailed self.old.faults self.new.faults }
+    {
         Err(self.fail())
     }
 
-    fn read(&mut self, _file: u32, _at: u64, _buf: &mut [u8]) -> Result<usize, Failed> {
+    fn read(&mut self, _file: u32, _at: u64, _buf: &mut [u8]) -> Result<usize, Failed>
+        ensures fails { IsErr result }
+        ensures count { HasFailed self.old.faults self.new.faults }
+    {
         Err(self.fail())
     }
 
-    fn write_at(&mut self, _file: u32, _at: u64, _bytes: &[u8]) -> Result<(), Failed> {
+    fn write_at(&mut self, _file: u32, _at: u64, _bytes: &[u8]) -> Result<(), Failed>
+        ensures fails { IsErr result }
+        ensures count { HasFailed self.old.faults self.new.faults }
+    {
         Err(self.fail())
     }
 
-    fn cut(&mut self, _file: u32, _len: u64) -> Result<(), Failed> {
+    fn cut(&mut self, _file: u32, _len: u64) -> Result<(), Failed>
+        ensures fails { IsErr result }
+        ensures count { HasFailed self.old.faults self.new.faults }
+    {
         Err(self.fail())
     }
 
-    fn sync(&mut self) -> Result<(), Failed> {
+    fn sync(&mut self) -> Result<(), Failed>
+        ensures fails { IsErr result }
+        ensures count { HasFailed self.old.faults self.new.faults }
+    {
         Err(self.fail())
     }
 }

@@ -79,7 +79,7 @@ fn a_listed_call_fails_and_leaves_what_reads_give(rt: HostRuntime) -> Result<(),
     assert_eq!(rt; (disk.calls(), disk.writes(), disk.faults()), (9, 3, 4));
     let mut left = disk.crash(alloc, CrashChoice::AsRead)?;
     assert_eq!(rt; left.len(FILE)?, 1);
-    assert_eq!(rt; (left.calls(), left.faults()), (1, 0));
+    assert_eq!(rt; (left.calls(), left.faults(), disk.unrecorded()), (1, 0, 0));
     Ok(())
 }
 

@@ -1,8 +1,8 @@
-use Rattle.std.proofs.Common.{◌≡◌, ◌<◌, ◌≤◌, ℕ, List, Vec, Some, None, Option, IfOk, length, get_or, sym, ◌∙◌, ap, subst, arith}
+use Rattle.std.proofs.Common.{◌≡◌, ◌<◌, ◌≤◌, ℕ, List, Vec, Some, Option, IfOk, length, get_or, sym, ◌∙◌, ap, subst, arith}
 use Rattle.std.specs.declared.alloc.Global.{Global}
 use Rattle.std.specs.List.{position_or_len}
 use Rattle.disk_model.specs.Calls.{FileState, synced}
-use Rattle.disk_model.specs.Memory.{bytes_at, file_state, is_of, state_at}
+use Rattle.disk_model.specs.Memory.{bytes_at, file_state, is_of}
 use Rattle.disk_model.specs.MemDisk.{start_in, record_in, states_in}
 use Rattle.disk_model.specs.Sound.{IsSound, sound_started}
 use Rattle.disk_model.specs.Left.{IsLeft}
