@@ -1,5 +1,5 @@
 -- One more byte of a field.
-use Rattle.std.proofs.Common.{◌⊎◌, ◌≡◌, ℕ, ◌+◌, ◌<◌, ◌≤◌, List, [], ◌∷◌, ◌++◌, length, take, set, Some, refl, sym, ap, ◌∙◌, append_assoc, arith, inl, inr}
+use Rattle.std.proofs.Common.{◌⊎◌, ◌≡◌, ℕ, ◌+◌, ◌<◌, ◌≤◌, List, [], ◌∷◌, ◌++◌, length, take, set, Some, None, refl, sym, ap, ◌∙◌, append_assoc, arith, inl, inr}
 use Rattle.std.proofs.lemmas.Bool.{lt-ltb}
 use Rattle.std.proofs.lemmas.List.{append-nil, take_more_set}
 use Rattle.disk_model.specs.declared.form.FormKind.TheVariants.{Short}
@@ -7,10 +7,12 @@ use Rattle.partition_file.specs.declared.types.Expect.{Expect}
 use Rattle.partition_file.specs.declared.types.PartFault.{PartFault}
 use Rattle.partition_file.specs.declared.types.Stage.{Stage}
 use Rattle.partition_file.specs.declared.types.Stage.TheVariants as stages
+use Rattle.partition_file.specs.declared.types.Completed.{Completed}
+use Rattle.partition_file.specs.declared.types.Completed.TheVariants as completed
 use Rattle.partition_file.specs.declared.types.RowStep.{RowStep}
 use Rattle.partition_file.specs.declared.types.RowStep.TheVariants as steps
 use Rattle.partition_file.specs.Reading.{Behind, complete, number, stop, magic_at, low_at, high_at, count_at, label_at, destination_at, birth_at, end_at, magic_then, low_then, high_then, count_then, label_then, destination_then, birth_then}
-use Rattle.partition_file.specs.Stages.{stage_at, width_of, IsNext, IsStage, behind_row, behind_edge}
+use Rattle.partition_file.specs.Stages.{stage_at, width_of, IsNext, IsStage, IsCompleted, completed_at, stage_behind, step_of, behind_row, behind_edge}
 use Rattle.partition_file.specs.Reader.{Reader, IsOpen, rest_of, Feeds, Gives, Uses}
 
 number_short : (w place : ℕ) (bytes : List ℕ) (next : ℕ → Behind) → length bytes < w → number w place bytes next ≡ stop place Short
@@ -130,15 +132,30 @@ no_fault_from_not (stages.Birth edge left) n = tt
 no_fault_from_not stages.End n = tt
 no_fault_from_not (stages.Fault f) n = n f refl
 
--- bytes before, and one that gives a step
-pub chained : (old mid new : Reader) (front : List ℕ) (byte : ℕ) (step : RowStep) → ((more : List ℕ) → rest_of old (front ++ more) ≡ rest_of mid more) → Feeds mid new byte (Some step) → Gives old new (front ++ byte ∷ []) step
-chained old mid new front byte steps.More so_far fed = absurd fed
-chained old mid new front byte (steps.Edge b) so_far fed = λ more. ap (rest_of old) (append_assoc front (byte ∷ []) more) ∙ so_far (byte ∷ more) ∙ fed more
-chained old mid new front byte (steps.Fault f) so_far fed = (λ more. ap (rest_of old) (append_assoc front (byte ∷ []) more) ∙ so_far (byte ∷ more) ∙ fed.0 more, fed.1)
-chained old mid new front byte steps.End so_far fed = absurd fed
+-- a whole field was taken
+pub completes : (e : Expect) (s : Stage) (place w : ℕ) (front bytes : List ℕ) (c : Completed) → ((more : List ℕ) → stage_at e s place (front ++ (bytes ++ more)) ≡ completed_at e c (place + w) more) → IsCompleted e c → Feeds (reader e s place front) (reader e (stage_behind c) (place + w) []) bytes (step_of c)
+completes e s place w front bytes (completed.On next) leads is = (leads, is_open e next (place + w) [] (no_fault_from_next e next is) (width_at_least next))
+completes e s place w front bytes (completed.Edge b next) leads is = leads
+completes e s place w front bytes (completed.Fault f) leads is = (leads, refl)
 
-pub used_by : (mid new : Reader) (byte n i : ℕ) (step : RowStep) → i < n → Feeds mid new byte (Some step) → Uses n (i + 1) step
-used_by mid new byte n i steps.More lt fed = absurd fed
-used_by mid new byte n i (steps.Edge b) lt fed = (omega arith, omega arith)
-used_by mid new byte n i (steps.Fault f) lt fed = omega arith
-used_by mid new byte n i steps.End lt fed = omega arith
+pub stage_is_kept : (e : Expect) (c : Completed) → IsCompleted e c → IsStage e (stage_behind c)
+stage_is_kept e (completed.On next) is = stage_from_next e next is
+stage_is_kept e (completed.Edge b next) is = stage_from_next e next is
+stage_is_kept e (completed.Fault f) is = tt
+
+-- bytes before, and some that give a step
+pub chained : (old mid new : Reader) (front bytes : List ℕ) (step : RowStep) → ((more : List ℕ) → rest_of old (front ++ more) ≡ rest_of mid more) → Feeds mid new bytes (Some step) → Gives old new (front ++ bytes) step
+chained old mid new front bytes steps.More so_far fed = absurd fed
+chained old mid new front bytes (steps.Edge b) so_far fed = λ more. ap (rest_of old) (append_assoc front bytes more) ∙ so_far (bytes ++ more) ∙ fed more
+chained old mid new front bytes (steps.Fault f) so_far fed = (λ more. ap (rest_of old) (append_assoc front bytes more) ∙ so_far (bytes ++ more) ∙ fed.0 more, fed.1)
+chained old mid new front bytes steps.End so_far fed = absurd fed
+
+-- bytes before, and some within a field
+pub chained_more : (old mid new : Reader) (front bytes : List ℕ) → ((more : List ℕ) → rest_of old (front ++ more) ≡ rest_of mid more) → Feeds mid new bytes None → (more : List ℕ) → rest_of old ((front ++ bytes) ++ more) ≡ rest_of new more
+chained_more old mid new front bytes so_far fed = λ more. ap (rest_of old) (append_assoc front bytes more) ∙ so_far (bytes ++ more) ∙ fed.0 more
+
+pub used_by : (mid new : Reader) (bytes : List ℕ) (n used : ℕ) (step : RowStep) → 0 < used → used ≤ n → Feeds mid new bytes (Some step) → Uses n used step
+used_by mid new bytes n used steps.More some le fed = absurd fed
+used_by mid new bytes n used (steps.Edge b) some le fed = (some, le)
+used_by mid new bytes n used (steps.Fault f) some le fed = le
+used_by mid new bytes n used steps.End some le fed = le

@@ -49,11 +49,11 @@ Gives old new bytes (steps.Edge b) = (more : List ℕ) → rest_of old (bytes ++
 Gives old new bytes (steps.Fault f) = ((more : List ℕ) → rest_of old (bytes ++ more) ≡ ends_with f) × HasFault new f
 Gives old new bytes steps.End = ⊥
 
--- one byte, and what it completes
-abbrev pub Feeds : Reader → Reader → ℕ → Option RowStep → Type 0
-Feeds old new byte None = Gives old new (byte ∷ []) steps.More
-Feeds old new byte (Some steps.More) = ⊥
-Feeds old new byte (Some step) = Gives old new (byte ∷ []) step
+-- bytes within a field, and the step that they give where they end the field
+abbrev pub Feeds : Reader → Reader → List ℕ → Option RowStep → Type 0
+Feeds old new bytes None = Gives old new bytes steps.More
+Feeds old new bytes (Some steps.More) = ⊥
+Feeds old new bytes (Some step) = Gives old new bytes step
 
 -- how many of n bytes a step uses: all, or at least the last one of an edge
 abbrev pub Uses : ℕ → ℕ → RowStep → Type 0
