@@ -1,5 +1,5 @@
 -- Reading a partition file field by field, from left to right: the edges, and the first field that breaks its rule.
-use Rattle.std.specs.Prelude.{ℕ, zero, suc, ◌+◌, ◌-◌, Bool, true, not, nat_lt, ◌==◌, ◌&&◌, ◌||◌, if◌then◌else◌, List, [], ◌∷◌, length, drop, Option, Some, None, codes}
+use Rattle.std.specs.Prelude.{ℕ, zero, suc, ◌+◌, ◌-◌, Bool, true, not, nat_lt, ◌==◌, ◌&&◌, ◌||◌, if◌then◌else◌, List, [], ◌∷◌, length, drop, Option, Some, None, Result, Ok, Err, codes}
 use Rattle.byteorder.specs.Endian.{little_number}
 use Rattle.graph_words.specs.declared.types.Edge.{Edge}
 use Rattle.graph_words.specs.declared.types.Born.{Born}
@@ -29,6 +29,11 @@ stop place kind = ends_with (record { place = place; kind = kind })
 abbrev pub then_found : Born → Found → Found
 then_found b f = record { edges = b ∷ f.edges; fault = f.fault }
 
+-- where an edge was read, what comes behind it, and else its fault
+abbrev pub edge_leads : (Born → ℕ → List ℕ → Found) → ℕ → List ℕ → Result Born PartFault → Found
+edge_leads next after rest (Ok b) = next b after rest
+edge_leads next after rest (Err f) = ends_with f
+
 -- what stands behind a field: it begins at a place, and has these bytes
 abbrev pub Behind : Type 0
 Behind = ℕ → List ℕ → Found
@@ -40,6 +45,10 @@ number w place bytes next = if nat_lt (length bytes) w then stop place Short els
 -- a rule of the field at the place
 abbrev pub need : Bool → ℕ → FormKind → Found → Found
 need ok place kind next = if ok then next else stop place kind
+
+-- the fault of a field at the place, where it breaks its rule
+abbrev pub fault_of : Bool → ℕ → FormKind → Option PartFault
+fault_of ok place kind = if ok then None else Some (record { place = place; kind = kind })
 
 abbrev pub edge : ℕ → ℕ → ℕ → Edge
 edge u a v = record { src = record { 0 = u }; label = record { 0 = a }; dst = record { 0 = v } }
