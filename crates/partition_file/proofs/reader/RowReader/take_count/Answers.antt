@@ -13,6 +13,6 @@ returns-clause-feeds c =
     let stage : i.stage ≡ stages.Count c.args.vertex = rw (← c.self.view_is) at c.requires.stage in
     rw (← c.self.view_is, none, stage) (
       λ more. count_gives_row i.expect c.args.vertex (behind_row i.expect c.args.vertex) i.place c.args.field.now more c.requires.whole
-        ∙ rw (← c.read_u64.ensures) (sym (c.row_from-self-inside.ensures.next (i.place + 8) more)),
+          ∙ rw (← c.read_u64.ensures) (sym (c.row_from-self-inside.ensures.next (i.place + 8) more)),
       is_open i.expect next (i.place + 8) [] (no_fault_from_next i.expect next c.row_from-self-inside.ensures.stage) (width_at_least next),
     )

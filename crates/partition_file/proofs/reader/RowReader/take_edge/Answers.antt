@@ -10,8 +10,8 @@ returns-in-Ok-clause-feeds c =
     let none : take i.count i.held ≡ [] = rw (← c.self.view_is) at c.requires.start in
     let stage : i.stage ≡ stages.Label c.args.vertex c.args.left c.args.before = rw (← c.self.view_is) at c.requires.stage in
     rw (← c.self.view_is, none, stage) (
-      λ more. c.in-Ok.ensures (behind_edge i.expect c.args.vertex c.args.left) more
-        ∙ ap (then_found c.in-Ok.born) (sym (c.row_from-self-inside.ensures.next (i.place + 14) more))
+    λ more. c.in-Ok.ensures (behind_edge i.expect c.args.vertex c.args.left) more
+    ∙ ap (then_found c.in-Ok.born) (sym (c.row_from-self-inside.ensures.next (i.place + 14) more))
     )
 
 pub returns-in-Err-clause-feeds : goal.returns-in-Err-clause-feeds
