@@ -1,8 +1,10 @@
 ghost use Rattle.std.specs.Prelude.{◌≡◌, ◌+◌, ◌^◌, ◌<◌, ◌≤◌, ℕ, List, length, sum, IfOk};
 ghost use Rattle.intervals.specs.DegreeCut.{IsLongest, IsCutByDegree};
 
-use crate::intervals::MOST_INTERVALS;
 use std::alloc::{AllocError, Global};
+
+/// How many intervals there are at most.
+const MOST_INTERVALS: usize = 256;
 
 /// The vertex behind the longest interval from `low` on.
 fn end_from(counts: &[u64], low: usize, limit: u64) -> usize

@@ -1,14 +1,11 @@
 ghost use Rattle.std.specs.Prelude.{◌≡◌, ◌+◌, ◌^◌, ◌<◌, ◌≤◌, length, sum, nat_le, IfOk, OnOk, OnErr};
 ghost use Rattle.std.specs.List.{insert};
 ghost use Rattle.intervals.specs.Bounds.{low_of, high_of, IsCut, vertices_of, LiesIn, interval_of, whole_of};
-ghost use Rattle.intervals.specs.DegreeCut.{IsCutByDegree};
+ghost use Rattle.intervals.specs.DegreeCut.{IsCutByDegree, most_intervals};
 
 use crate::degrees::ends_by_degrees;
 use std::alloc::{AllocError, Global};
 use std::marker::Model;
-
-/// How many intervals a cut by degrees, or one that is split, has at most.
-pub(crate) const MOST_INTERVALS: usize = 256;
 
 /// The vertices from 0 to before some number, cut into intervals that are not empty.
 ///
@@ -97,10 +94,11 @@ impl Intervals {
         (low, self.ends[i])
     }
 
-    /// Cuts interval `i` before the vertex `at`. The intervals behind it move up by one number.
+    /// Cuts interval `i` before the vertex `at`, which lies within it. The intervals behind it move up
+    /// by one number. After `AllocError` the intervals are as they were.
     pub fn split(&mut self, i: usize, at: u32) -> Result<(), AllocError>
         requires number { i < length self.old }
-        requires few { length self.old < 256 }
+        requires few { length self.old < most_intervals }
         requires low { low_of self.old i < at }
         requires high { at < high_of self.old i }
         ensures ok { OnOk result (self.new ≡ insert self.old i at) }
