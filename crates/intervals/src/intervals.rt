@@ -1,4 +1,4 @@
-ghost use Rattle.std.specs.Prelude.{◌≡◌, ◌+◌, ◌^◌, ◌<◌, ◌≤◌, length, sum, nat_le, IfOk, OnOk, OnErr};
+ghost use Rattle.std.specs.Prelude.{◌≡◌, ◌^◌, ◌<◌, ◌≤◌, length, sum, nat_le, IfOk, OnOk, OnErr};
 ghost use Rattle.std.specs.List.{insert};
 ghost use Rattle.intervals.specs.Bounds.{low_of, high_of, IsCut, vertices_of, LiesIn, interval_of, whole_of};
 ghost use Rattle.intervals.specs.DegreeCut.{IsCutByDegree, most_intervals};

@@ -1,6 +1,6 @@
-ghost use Rattle.std.specs.Prelude.{◌≡◌, ◌+◌, ◌<◌, ◌≤◌, ℕ, List, length, nat_le, if◌then◌else◌};
+ghost use Rattle.std.specs.Prelude.{◌≡◌, ◌+◌, ◌<◌, ℕ, List, length, nat_le, if◌then◌else◌};
 ghost use Rattle.std.specs.List.{insert};
-ghost use Rattle.intervals.specs.Bounds.{low_of, high_of, IsCut, vertices_of, LiesIn, interval_of};
+ghost use Rattle.intervals.specs.Bounds.{IsCut, vertices_of, LiesIn, interval_of};
 
 /// Each vertex below their number lies in one interval and no other, and no further vertex lies in any.
 pub fn each_vertex_in_one_interval()

@@ -18,11 +18,13 @@ pub record Reader : Type 0 where
   pub place : ℕ
   pub held : List ℕ
 
+-- the present field belongs to the interval, and is not whole yet
 pub record IsReader (r : Reader) : Type 0 where
   pub bounds : r.expect.lo < r.expect.hi
   pub stage : IsStage r.expect r.stage
   pub partial : length r.held < width_of r.stage
 
+-- a reader that was given no byte
 abbrev pub start : Expect → Reader
 start e = record { expect = e; stage = stages.Magic; place = 0; held = [] }
 
@@ -42,7 +44,7 @@ IsOpen r = (rest_of r [] ≡ complete) ⊎ (rest_of r [] ≡ stop r.place Short)
 abbrev pub HasFault : Reader → PartFault → Type 0
 HasFault r f = r.stage ≡ stages.Fault f
 
--- a step that a call gave, where `bytes` were used
+-- a step that a call gave, which used `bytes`: whatever bytes come behind them, the old reader would give the step and then what the new one gives
 abbrev pub Gives : Reader → Reader → List ℕ → RowStep → Type 0
 Gives old new bytes steps.More = ((more : List ℕ) → rest_of old (bytes ++ more) ≡ rest_of new more) × IsOpen new
 Gives old new bytes (steps.Edge b) = (more : List ℕ) → rest_of old (bytes ++ more) ≡ then_found b (rest_of new more)
