@@ -68,7 +68,8 @@ file_takes e bytes es bounds fits few given =
       },
     )
 
-low_rows : (p : Part) (es : List Born) → AllByRecursion (λ b. (p.lo ≤ b.edge.src.0) × (b.edge.src.0 < p.hi)) es → p.lo < p.hi → Above p.lo es × AllByRecursion (λ b. b.edge.src.0 < p.lo + (p.hi - p.lo)) es
+-- the edges of an interval begin in its rows
+pub low_rows : (p : Part) (es : List Born) → AllByRecursion (λ b. (p.lo ≤ b.edge.src.0) × (b.edge.src.0 < p.hi)) es → p.lo < p.hi → Above p.lo es × AllByRecursion (λ b. b.edge.src.0 < p.lo + (p.hi - p.lo)) es
 low_rows p [] h lt = (tt, tt)
 low_rows p (b ∷ es) h lt = let q = low_rows p es h.1 lt in ((h.0.0, q.0), (omega (arith, h.0.1), q.1))
 

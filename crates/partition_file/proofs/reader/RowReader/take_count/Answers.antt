@@ -1,6 +1,6 @@
-use Rattle.std.proofs.Common.{◌≡◌, ◌+◌, ◌∙◌, ◌++◌, [], ℕ, List, length, take, sym, ap}
+use Rattle.std.proofs.Common.{◌≡◌, ◌+◌, ◌∙◌, [], take, sym}
 use Rattle.partition_file.specs.declared.types.Stage.TheVariants as stages
-use Rattle.partition_file.specs.Stages.{behind_row, stage_at}
+use Rattle.partition_file.specs.Stages.{behind_row}
 use Rattle.partition_file.proofs.Feeding.{is_open, no_fault_from_next, width_at_least}
 use Rattle.partition_file.proofs.Numbers.{count_gives_row}
 use Rattle.partition_file.proofs.reader.RowReader.take_count.Goals as goal
