@@ -1,0 +1,111 @@
+-- A partition file that is read is the spelling of what was read, and a spelling is read again.
+use Rattle.std.proofs.Common.{◌≡◌, ℕ, ◌+◌, ◌-◌, ◌^◌, ◌<◌, ◌≤◌, Bool, true, false, eqb, cond, List, [], ◌∷◌, ◌++◌, length, Option, Some, None, Err, refl, sym, ap, subst, ◌∙◌, arith}
+use Rattle.std.specs.List.{AllByRecursion}
+use Rattle.std.proofs.lemmas.Bool.{eqb-true}
+use Rattle.std.proofs.lemmas.Bool.Decides.{nat_tests}
+use Rattle.std.proofs.lemmas.List.Elements.{All-from_recursion, recursion_from_All}
+use Rattle.byteorder.specs.Endian.{little_bytes}
+use Rattle.graph_words.specs.declared.types.Born.{Born}
+use Rattle.disk_model.specs.declared.form.FormKind.TheVariants.{BadBounds}
+use Rattle.partition_file.specs.declared.types.Expect.{Expect}
+use Rattle.partition_file.specs.declared.types.Format.{Format}
+use Rattle.partition_file.specs.declared.types.Format.TheVariants.{First}
+use Rattle.partition_file.specs.declared.types.PartError.{PartError}
+use Rattle.partition_file.specs.declared.types.PartError.TheVariants as errors
+use Rattle.partition_file.specs.Reading.{Found, need, rows_of, first_magic, format_of, in_format, high_at, high_then, low_at, low_then, magic_at, magic_then, reading}
+use Rattle.partition_file.specs.Spelling.{found, Part, FitsEdge, Fits, rows_bytes, spelling, Spells, Decodes, Answers}
+use Rattle.partition_file.proofs.NumberLaws.{IsBytes, Takes-then, wide4, need_takes, number_takes, number_again}
+use Rattle.partition_file.proofs.EdgeLaws.{IsExpect}
+use Rattle.partition_file.proofs.Splits.{Above, Ascends-from_pairs, pairs_from_Ascends}
+use Rattle.partition_file.proofs.RowLaws.{rows_take, rows_again}
+
+abbrev pub part : Expect → List Born → Part
+part e es = record { lo = e.lo; hi = e.hi; edges = es }
+
+format_takes : (e : Expect) (place : ℕ) (f : Option Format) (after : ℕ) (rest : List ℕ) (es : List Born) → in_format e place f after rest ≡ found es → (g : Format) × (f ≡ Some g) × (low_at e g after rest ≡ found es)
+format_takes e place None after rest es given = let h = ap (λ (x : Found). x.fault) given in absurd cc
+format_takes e place (Some g) after rest es given = (g, refl, given)
+
+format_is : (b : Bool) (g : Format) → cond b (Some First) None ≡ Some g → (b ≡ true) × (g ≡ First)
+format_is true g e = (refl, cc)
+format_is false g e = absurd cc
+
+first_rows : (e : Expect) (lo hi : ℕ) (es : List Born) → lo < hi → Above lo es → AllByRecursion (λ b. b.edge.src.0 < lo + (hi - lo)) es → AllByRecursion (λ b. (lo ≤ b.edge.src.0) × (b.edge.src.0 < hi)) es
+first_rows e lo hi [] lt low high = tt
+first_rows e lo hi (b ∷ es) lt low high = ((low.0, omega (arith, high.0)), first_rows e lo hi es lt low.1 high.1)
+
+header : (bytes : List ℕ) (m m' l l' h h' : ℕ) (rest rest' : List ℕ) → bytes ≡ ((little_bytes 4 m ++ little_bytes 4 l) ++ little_bytes 4 h) ++ rest → m ≡ m' → l ≡ l' → h ≡ h' → rest ≡ rest' → bytes ≡ ((little_bytes 4 m' ++ little_bytes 4 l') ++ little_bytes 4 h') ++ rest'
+header bytes m m' l l' h h' rest rest' given em el eh er =
+    given ∙ ap (λ (x : ℕ). ((little_bytes 4 x ++ little_bytes 4 l) ++ little_bytes 4 h) ++ rest) em
+    ∙ ap (λ (x : ℕ). ((little_bytes 4 m' ++ little_bytes 4 x) ++ little_bytes 4 h) ++ rest) el
+    ∙ ap (λ (x : ℕ). ((little_bytes 4 m' ++ little_bytes 4 l') ++ little_bytes 4 x) ++ rest) eh
+    ∙ ap (λ (x : List ℕ). ((little_bytes 4 m' ++ little_bytes 4 l') ++ little_bytes 4 h') ++ x) er
+
+pub file_takes : (e : Expect) (bytes : List ℕ) (es : List Born) → e.lo < e.hi → IsBytes bytes → length es < 2 ^ 64 → reading e bytes ≡ found es → Spells bytes (part e es) × Fits e (part e es)
+unfolding magic_at magic_then low_at low_then high_at high_then
+file_takes e bytes es bounds fits few given =
+    let m = number_takes 4 wide4 0 bytes (magic_then e 0) es fits given in
+    let f = format_takes e 0 (format_of m.n) 4 m.rest es m.leads in
+    let g = format_is (eqb m.n first_magic) f.0 f.1 in
+    let first : low_at e First 4 m.rest ≡ found es = subst (λ (x : Format). low_at e x 4 m.rest ≡ found es) g.1 f.2 in
+    let magic : m.n ≡ first_magic = eqb-true _ _ g.0 in
+    let l = number_takes 4 wide4 4 m.rest (low_then e First 4) es m.takes.rest_fits first in
+    let l-ok = need_takes (eqb l.n e.lo) 4 BadBounds (high_at e First 8 l.rest) es l.leads in
+    let h = number_takes 4 wide4 8 l.rest (high_then e First 8) es l.takes.rest_fits l-ok.1 in
+    let h-ok = need_takes (eqb h.n e.hi) 8 BadBounds (rows_of First e e.lo 12 h.rest) es h.leads in
+    let r = rows_take e (e.hi - e.lo) e.lo 12 h.rest es h.takes.rest_fits h-ok.1 in
+    let head = Takes-then bytes (little_bytes 4 m.n ++ little_bytes 4 l.n) l.rest (little_bytes 4 h.n) h.rest (Takes-then bytes (little_bytes 4 m.n) m.rest (little_bytes 4 l.n) l.rest m.takes l.takes) h.takes in
+    let text : bytes ≡ ((little_bytes 4 first_magic ++ little_bytes 4 e.lo) ++ little_bytes 4 e.hi) ++ rows_bytes (e.hi - e.lo) e.lo es =
+    header bytes m.n first_magic l.n e.lo h.n e.hi h.rest (rows_bytes (e.hi - e.lo) e.lo es) head.parts magic (eqb-true _ _ l-ok.0) (eqb-true _ _ h-ok.0) r.text in
+    let within = first_rows e e.lo e.hi es bounds r.low r.high in (
+      (First, text),
+      record {
+        lo = refl;
+        hi = refl;
+        part = record { bounds = bounds; ascending = pairs_from_Ascends es r.sorted; within = All-from_recursion (λ b. (e.lo ≤ b.edge.src.0) × (b.edge.src.0 < e.hi)) es within };
+        each = All-from_recursion (FitsEdge e) es r.fits;
+        few = few;
+      },
+    )
+
+-- the edges of an interval begin in its rows
+pub low_rows : (p : Part) (es : List Born) → AllByRecursion (λ b. (p.lo ≤ b.edge.src.0) × (b.edge.src.0 < p.hi)) es → p.lo < p.hi → Above p.lo es × AllByRecursion (λ b. b.edge.src.0 < p.lo + (p.hi - p.lo)) es
+low_rows p [] h lt = (tt, tt)
+low_rows p (b ∷ es) h lt = let q = low_rows p es h.1 lt in ((h.0.0, q.0), (omega (arith, h.0.1), q.1))
+
+test_same : (n : ℕ) → eqb n n ≡ true
+test_same n = grind (arith, nat_tests)
+
+spelled_again : (e : Expect) (es : List Born) → IsExpect e → Fits e (part e es) → reading e (spelling First (part e es)) ≡ found es
+unfolding magic_at magic_then low_at low_then high_at high_then
+spelled_again e es ex fits =
+    let w = low_rows (part e es) es (recursion_from_All (λ b. (e.lo ≤ b.edge.src.0) × (b.edge.src.0 < e.hi)) es fits.part.within) fits.part.bounds in
+    let rows : List ℕ = rows_bytes (e.hi - e.lo) e.lo es in
+    let regrouped : spelling First (part e es) ≡ little_bytes 4 first_magic ++ (little_bytes 4 e.lo ++ (little_bytes 4 e.hi ++ rows)) = refl in
+    ap (magic_at e 0) regrouped
+    ∙ number_again 4 0 first_magic (little_bytes 4 e.lo ++ (little_bytes 4 e.hi ++ rows)) (magic_then e 0) (omega arith)
+    ∙ number_again 4 4 e.lo (little_bytes 4 e.hi ++ rows) (low_then e First 4) (omega (arith, ex.lo))
+    ∙ ap (λ (t : Bool). need t 4 BadBounds (high_at e First 8 (little_bytes 4 e.hi ++ rows))) (test_same e.lo)
+    ∙ number_again 4 8 e.hi rows (high_then e First 8) (omega (arith, ex.hi))
+    ∙ ap (λ (t : Bool). need t 8 BadBounds (rows_of First e e.lo 12 rows)) (test_same e.hi)
+    ∙ rows_again e (e.hi - e.lo) e.lo 12 es ex w.0 w.1 (recursion_from_All (FitsEdge e) es fits.each) (Ascends-from_pairs es fits.part.ascending) fits.few
+
+the_part : (e : Expect) (p : Part) → Fits e p → p ≡ part e p.edges
+the_part e p fits = rw (← fits.lo, ← fits.hi) refl
+
+pub file_again : (e : Expect) (bytes : List ℕ) (p : Part) → IsExpect e → Fits e p → Spells bytes p → reading e bytes ≡ found p.edges
+file_again e bytes p ex fits (First, text) =
+    let same = the_part e p fits in
+    ap (reading e) (text ∙ ap (spelling First) same) ∙ spelled_again e p.edges ex (subst (Fits e) same fits)
+
+pub only_at_ok : (e : Expect) (bytes : List ℕ) (es : List Born) (p : Part) → IsExpect e → reading e bytes ≡ found es → Fits e p → Spells bytes p → part e es ≡ p
+only_at_ok e bytes es p ex given fits spells =
+    let again = file_again e bytes p ex fits spells in
+    let same : es ≡ p.edges = ap (λ (x : Found). x.edges) (sym given ∙ again) in
+    ap (part e) same ∙ sym (the_part e p fits)
+
+pub only_at_err : {X : Type 0} (view : X → List Born) (e : Expect) (bytes : List ℕ) (x : PartError) (p : Part) → IsExpect e → Decodes view (Err x) (reading e bytes) → Fits e p → Spells bytes p → Answers (Err x) p
+only_at_err view e bytes (errors.Fault f) p ex given fits spells =
+    let again : (reading e bytes).fault ≡ None = ap (λ (x : Found). x.fault) (file_again e bytes p ex fits spells) in
+    absurd (cc)
+only_at_err view e bytes errors.NoMemory p ex given fits spells = tt
