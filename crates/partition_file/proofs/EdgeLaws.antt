@@ -5,7 +5,7 @@ use Rattle.std.proofs.lemmas.Bool.Decides.{nat_tests}
 use Rattle.byteorder.specs.Endian.{little_bytes}
 use Rattle.graph_words.specs.declared.types.Edge.{Edge}
 use Rattle.graph_words.specs.declared.types.Born.{Born}
-use Rattle.disk_model.specs.declared.form.FormKind.TheVariants.{BadLabel, BadOrder, BadVertex, BadBirth}
+use Rattle.disk_model.specs.declared.form_kind.FormKind.TheVariants.{BadLabel, BadOrder, BadVertex, BadBirth}
 use Rattle.partition_file.specs.declared.types.Expect.{Expect}
 use Rattle.partition_file.specs.Reading.{Behind, need, edge, born, is_known, is_above, label_at, label_then, destination_at, destination_then, birth_at, birth_then}
 use Rattle.partition_file.specs.Spelling.{found, FitsEdge, edge_bytes}

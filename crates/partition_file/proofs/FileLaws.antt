@@ -6,7 +6,7 @@ use Rattle.std.proofs.lemmas.Bool.Decides.{nat_tests}
 use Rattle.std.proofs.lemmas.List.Elements.{All-from_recursion, recursion_from_All}
 use Rattle.byteorder.specs.Endian.{little_bytes}
 use Rattle.graph_words.specs.declared.types.Born.{Born}
-use Rattle.disk_model.specs.declared.form.FormKind.TheVariants.{BadBounds}
+use Rattle.disk_model.specs.declared.form_kind.FormKind.TheVariants.{BadBounds}
 use Rattle.partition_file.specs.declared.types.Expect.{Expect}
 use Rattle.partition_file.specs.declared.types.Format.{Format}
 use Rattle.partition_file.specs.declared.types.Format.TheVariants.{First}

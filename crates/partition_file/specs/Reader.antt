@@ -1,7 +1,7 @@
 -- A reader of a partition file that comes in pieces.
 use Rattle.std.specs.Prelude.{◌≡◌, ℕ, ◌+◌, ◌<◌, ◌≤◌, List, [], ◌++◌, length, Option, Some, None, ◌⊎◌}
 use Rattle.graph_words.specs.declared.types.Born.{Born}
-use Rattle.disk_model.specs.declared.form.FormKind.TheVariants.{Short}
+use Rattle.disk_model.specs.declared.form_kind.FormKind.TheVariants.{Short}
 use Rattle.partition_file.specs.declared.types.Expect.{Expect}
 use Rattle.partition_file.specs.declared.types.PartFault.{PartFault}
 use Rattle.partition_file.specs.declared.types.Stage.{Stage}

@@ -3,8 +3,8 @@ use Rattle.std.specs.Prelude.{ℕ, zero, suc, ◌+◌, ◌-◌, Bool, true, not,
 use Rattle.byteorder.specs.Endian.{little_number}
 use Rattle.graph_words.specs.declared.types.Edge.{Edge}
 use Rattle.graph_words.specs.declared.types.Born.{Born}
-use Rattle.disk_model.specs.declared.form.FormKind.{FormKind}
-use Rattle.disk_model.specs.declared.form.FormKind.TheVariants.{BadMagic, Short, Extra, BadLabel, BadBounds, BadOrder, BadVertex, BadBirth}
+use Rattle.disk_model.specs.declared.form_kind.FormKind.{FormKind}
+use Rattle.disk_model.specs.declared.form_kind.FormKind.TheVariants.{BadMagic, Short, Extra, BadLabel, BadBounds, BadOrder, BadVertex, BadBirth}
 use Rattle.partition_file.specs.declared.types.Expect.{Expect}
 use Rattle.partition_file.specs.declared.types.PartFault.{PartFault}
 use Rattle.partition_file.specs.declared.types.Format.{Format}
