@@ -1,13 +1,13 @@
 -- The fault of a segment, test by test, and the first fault of a text that is longer than its limit.
 use Rattle.std.proofs.Common.{◌≡◌, ◌⊎◌, inl, inr, ℕ, ◌+◌, ◌<◌, ◌≤◌, suc, zero, true, false, Bool, cond, List, [], ◌∷◌, ◌++◌, length, refl, ap, sym, ◌∙◌, arith, Some, None, append_assoc, append-nil, length-append, subst}
-use Rattle.std.specs.Prelude.{nat_lt, Option}
+use Rattle.std.specs.Prelude.{All, nat_lt, Option}
 use Rattle.std.proofs.lemmas.Bool.Decides.{nat_tests}
 use Rattle.std.proofs.lemmas.List.Elements.{All-nil, All-cons}
 use Rattle.graph_words.specs.Text.{words, is_skipped}
 use Rattle.io_edge.specs.declared.kinds.InputKind.{InputKind}
 use Rattle.io_edge.specs.declared.kinds.InputKind.TheVariants.{LineTooLong, TooLong}
 use Rattle.io_edge.specs.Lines.{is_line_feed, segments, line, without_end}
-use Rattle.io_edge.specs.FirstFault.{fault_or, line_fault, with_line, first_fault, HasFaultAnyway}
+use Rattle.io_edge.specs.FirstFault.{Fault, fault_or, line_fault, with_line, first_fault, HasFaultAnyway}
 use Rattle.io_edge.proofs.SegmentLemmas.{HasNoFeed, segments_at, segments_long}
 
 -- a segment that is short and ends within the limit has the fault of its words
@@ -119,3 +119,43 @@ module _ (limit : ℕ) (kind : List (List (List ℕ)) → List (List ℕ) → Op
 -- a text with more bytes than the limit and a line has a first fault, which longer texts have too
 pub long_text_has_fault : (limit : ℕ) (kind : List (List (List ℕ)) → List (List ℕ) → Option InputKind) (text later : List ℕ) → limit + 4097 ≤ length text → HasFaultAnyway limit kind 1 0 [] text later
 long_text_has_fault limit kind text later long = anyway limit kind later (length text) 1 0 [] text (begins text) (omega arith) (omega arith) (omega arith)
+
+-- where a text has no first fault, no segment has a fault behind the lines before it
+pub record IsFaultless (limit : ℕ) (kind : List (List (List ℕ)) → List (List ℕ) → Option InputKind) (s : List ℕ) : Type 0 where
+  pub before : List (List (List ℕ))
+  pub end : ℕ
+  pub none : line_fault limit kind before end s ≡ None
+
+first_none : (n : ℕ) (a : Option InputKind) (b : Option Fault) → fault_or n a b ≡ None → (a ≡ None) × (b ≡ None)
+first_none n (Some k) b e = absurd (cc)
+first_none n None b e = (refl, e)
+
+pub each_is_faultless : (limit : ℕ) (kind : List (List (List ℕ)) → List (List ℕ) → Option InputKind) (n at : ℕ) (before : List (List (List ℕ))) (parts : List (List ℕ)) → first_fault limit kind n at before parts ≡ None → All (IsFaultless limit kind) parts
+each_is_faultless limit kind n at before [] e = All-nil (IsFaultless limit kind)
+each_is_faultless limit kind n at before (s ∷ parts) e =
+    let both = first_none n (line_fault limit kind before (at + length s) s) (first_fault limit kind (n + 1) (at + length s) (with_line before s) parts) e in
+    All-cons (IsFaultless limit kind) s parts (record { before = before; end = at + length s; none = both.0 }) (each_is_faultless limit kind (n + 1) (at + length s) (with_line before s) parts both.1)
+
+-- a segment without a fault says nothing, or its words have none
+pub faultless_words : (limit : ℕ) (kind : List (List (List ℕ)) → List (List ℕ) → Option InputKind) (s : List ℕ) → (f : IsFaultless limit kind s) → (is_skipped (words (line s)) ≡ true) ⊎ ((is_skipped (words (line s)) ≡ false) × (kind f.before (words (line s)) ≡ None))
+faultless_words limit kind s f = go (nat_lt 4096 (length (without_end 10 s))) (nat_lt limit f.end) (is_skipped (words (line s))) refl refl refl
+  where
+    go : (a b c : Bool) → nat_lt 4096 (length (without_end 10 s)) ≡ a → nat_lt limit f.end ≡ b → is_skipped (words (line s)) ≡ c → (is_skipped (words (line s)) ≡ true) ⊎ ((is_skipped (words (line s)) ≡ false) × (kind f.before (words (line s)) ≡ None))
+    go a b true p q r = inl r
+    go true b false p q r = let h = sym (ap (λ t. cond t (Some LineTooLong) (cond (nat_lt limit f.end) (Some TooLong) (cond (is_skipped (words (line s))) None (kind f.before (words (line s)))))) p) ∙ f.none in absurd (cc)
+    go false true false p q r =
+        let h =
+        sym
+        (ap (λ t. cond t (Some LineTooLong) (cond (nat_lt limit f.end) (Some TooLong) (cond (is_skipped (words (line s))) None (kind f.before (words (line s)))))) p
+        ∙ ap (λ t. cond t (Some TooLong) (cond (is_skipped (words (line s))) None (kind f.before (words (line s))))) q)
+        ∙ f.none in
+        absurd (cc)
+    go false false false p q r =
+        inr (
+          r,
+          sym
+              (ap (λ t. cond t (Some LineTooLong) (cond (nat_lt limit f.end) (Some TooLong) (cond (is_skipped (words (line s))) None (kind f.before (words (line s)))))) p
+              ∙ ap (λ t. cond t (Some TooLong) (cond (is_skipped (words (line s))) None (kind f.before (words (line s))))) q
+              ∙ ap (λ t. cond t None (kind f.before (words (line s)))) r)
+              ∙ f.none,
+        )
