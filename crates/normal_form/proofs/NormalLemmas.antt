@@ -1,16 +1,23 @@
 -- The parts of a normal form.
-use Rattle.std.proofs.Common.{◌≡◌, ℕ, suc, ◌+◌, ◌-◌, ◌*◌, ◌<◌, ◌≤◌, ◌⊎◌, ◌↔◌, List, [], ◌∷◌, ◌++◌, length, get_or, refl, sym, ◌∙◌, ap, subst, inl, inr, arith, append-nil}
+use Rattle.std.proofs.Common.{◌≡◌, ℕ, suc, ◌+◌, ◌-◌, ◌*◌, ◌<◌, ◌≤◌, ◌⊎◌, ◌↔◌, List, [], ◌∷◌, ◌++◌, length, get_or, take, drop, refl, sym, ◌∙◌, ap, subst, inl, inr, arith, append-nil}
 use Rattle.std.specs.Prelude.{Contains, All, sum_by}
 use Rattle.std.proofs.lemmas.Bool.{cases_lt}
-use Rattle.std.proofs.lemmas.List.{get_or_append_left, get_or_default, length_push, get_or_push}
+use Rattle.std.proofs.lemmas.List.{get_or_append_left, get_or_default, length_push, get_or_push, drop_more}
 use Rattle.std.proofs.lemmas.List.Elements.{All-nil, All-cons, All-head, All-contains, Contains-get_or}
 use Rattle.graph_words.specs.declared.types.LabelId.{LabelId}
 use Rattle.graph_words.specs.declared.types.Rule.{Rule}
 use Rattle.graph_words.specs.Reach.{rule, Yields, done, keep, rewrite}
 use Rattle.normal_law.specs.Closure.{IsNamed, IsFresh, IsLabelOf, IsUp, itself, above, IsEmpty, HasNamedLabels}
-use Rattle.normal_law.specs.NormalForm.{fresh_label, fresh_words, stands_for, normal_form}
+use Rattle.normal_law.specs.NormalForm.{fresh_label, fresh_words, all_pairs, stands_for, normal_form}
 use Rattle.normal_law.proofs.Sound.{left_is_named, single_is_named}
 use Rattle.normal_law.proofs.Chains.{stands_for-named, stands_for-fresh, fresh_again}
+use Rattle.graph_words.specs.declared.types.PairRule.{PairRule}
+use Rattle.normal_law.specs.Closed.{Joins}
+use Rattle.normal_law.proofs.PairLemmas.{pairs_left}
+use Rattle.normal_law.proofs.FreshLemmas.{few_fresh}
+use Rattle.normal_form.specs.declared.joins.Join.{Join}
+use Rattle.normal_form.specs.Grammar.{IsGrammar}
+use Rattle.normal_form.specs.Joins.{HasJoinAt, IsJoined, IsTable}
 use Rattle.normal_form.specs.Rows.{AddsLabel}
 use Rattle.normal_form.specs.Above.{IsUpRow}
 use Rattle.normal_form.specs.Empty.{DerivesEmpty, IsFreshOf, HasFresh}
@@ -36,7 +43,7 @@ IsCounting-step n named after x c number is =
     at l m (inr le) =
         let place : l.0 ≡ length named = omega (arith, c.count) in
         let same : x.0 ≡ l.0 = omega arith in
-        ap (λ (k : ℕ). get_or (named ++ x ∷ []) k l) place ∙ get_or_push named x l ∙ ap (λ (k : ℕ). let y : LabelId = record { 0 = k } in y) same
+        ap (λ (k : ℕ). get_or (named ++ x ∷ []) k l) place ∙ get_or_push named x l (length named) refl ∙ ap (λ (k : ℕ). let y : LabelId = record { 0 = k } in y) same
 
 -- The labels above the first n stand at their numbers.
 pub record IsStacking (rules : List Rule) (n : ℕ) (rows : List (List LabelId)) : Type 0 where
@@ -56,7 +63,7 @@ IsStacking-step rules n rows after x row c number up is =
         let place : l.0 ≡ length rows = omega (arith, c.count) in
         let same : x.0 ≡ l.0 = omega arith in
         let x_is : x ≡ l = ap (λ (k : ℕ). let y : LabelId = record { 0 = k } in y) same in
-        subst (IsUpRow rules l) (sym (ap (λ (k : ℕ). get_or (rows ++ row ∷ []) k []) place ∙ get_or_push rows row [])) (subst (λ (y : LabelId). IsUpRow rules y row) x_is up)
+        subst (IsUpRow rules l) (sym (ap (λ (k : ℕ). get_or (rows ++ row ∷ []) k []) place ∙ get_or_push rows row [] (length rows) refl)) (subst (λ (y : LabelId). IsUpRow rules y row) x_is up)
 
 pub IsStacking-end : (rules : List Rule) (n : ℕ) (rows : List (List LabelId)) → IsStacking rules n rows → AreAbove rules rows
 IsStacking-end rules n rows s = record { each = λ l m. s.each l (omega (arith, s.count)) }
@@ -125,3 +132,34 @@ IsEmpty-found rules found row names sound whole h a = (λ m. forth ((h a).0 m), 
         let all = derives_throughout (subst (λ (f : List LabelId). Yields rules k f []) word y) refl in
         let within : a.0 - 1000 < length (fresh_words rules) = (let u = n.1 in let v = n.0 in omega arith) in
         inr (i, within, sym at, λ j d m. whole (get_or (get_or (fresh_words rules) i []) j d) (all j d m))
+
+-- a grammar has at most 62,000 fresh labels
+pub fresh_few : (rules : List Rule) → IsGrammar rules → length (fresh_words rules) ≤ 62000
+fresh_few rules g = omega (arith, few_fresh rules g.short, g.few)
+
+-- ---- what the parts answer
+
+-- one label of a list, as a list
+pub one_at : (named : List LabelId) (l : LabelId) → l.0 < length named → get_or named l.0 l ≡ l → take (l.0 + 1 - l.0) (drop l.0 named) ≡ l ∷ []
+one_at named l lt e =
+    let one : l.0 + 1 - l.0 ≡ 1 = omega arith in
+    ap (λ (n : ℕ). take n (drop l.0 named)) one ∙ ap (take 1) (drop_more named l.0 l lt) ∙ ap (λ (x : LabelId). x ∷ take 0 (drop (l.0 + 1) named)) e
+
+pub stands-named : (rules : List Rule) (named : List LabelId) (l : LabelId) → AreNamed named → l.0 < 1000 → take (l.0 + 1 - l.0) (drop l.0 named) ≡ stands_for (fresh_words rules) l
+stands-named rules named l n lt = one_at named l (omega (arith, n.count)) (n.each l lt) ∙ sym (stands_for-named (fresh_words rules) l lt)
+
+pub stands-fresh : (rules : List Rule) (l : LabelId) → 1000 ≤ l.0 → stands_for (fresh_words rules) l ≡ get_or (fresh_words rules) (l.0 - 1000) []
+stands-fresh rules l h = ap (λ (x : LabelId). stands_for (fresh_words rules) x) (sym (fresh_again l h)) ∙ stands_for-fresh (fresh_words rules) (l.0 - 1000)
+
+-- the labels above the left sides of the rules with two labels on the right are those of their joins
+pub joins_from_table : (rules : List Rule) (rows : List (List LabelId)) (joins : List (List Join)) → HasNamedLabels rules → length rows ≡ 1000 + length (fresh_words rules) → AreAbove rules rows → IsTable (all_pairs 0 rules) rows joins → (b c a : LabelId) → HasJoinAt joins b c a ↔ Joins (normal_form rules) b c a
+joins_from_table rules rows joins names count up table b c a = (λ h. forth ((table b c a).0 h), λ j. (table b c a).1 (back j))
+  where
+    left_known : (p : PairRule) → Contains (all_pairs 0 rules) p → p.left.0 < length rows
+    left_known p m = let h = All-contains (λ (p : PairRule). p.left.0 < 1000 + length (fresh_words rules)) (all_pairs 0 rules) p (pairs_left rules names) m in omega (arith, count)
+
+    forth : IsJoined (all_pairs 0 rules) rows b c a → Joins (normal_form rules) b c a
+    forth (p, m, e, q, h) = (p, m, e, q, (up.each p.left (left_known p m) a).0 h)
+
+    back : Joins (normal_form rules) b c a → IsJoined (all_pairs 0 rules) rows b c a
+    back (p, m, e, q, h) = (p, m, e, q, (up.each p.left (left_known p m) a).1 h)

@@ -218,3 +218,6 @@ All-added P before after label all one a k d l = go (get_or after k d) (a.only (
     go : (x : LabelId) → Contains before x ⊎ (x ≡ label) → P x
     go x (inl m) = All-contains P before x all m
     go x (inr e) = subst P (sym e) one
+
+pub iff_trans : {A B C : Type 0} → A ↔ B → B ↔ C → A ↔ C
+iff_trans p q = (λ a. q.0 (p.0 a), λ c. p.1 (q.1 c))

@@ -4,6 +4,7 @@ use Rattle.graph_words.specs.declared.types.Rule.{Rule}
 use Rattle.normal_law.specs.Closure.{IsEmpty}
 use Rattle.normal_law.specs.NormalForm.{fresh_words, all_pairs, normal_form}
 use Rattle.normal_form.specs.declared.joins.Join.{Join}
+use Rattle.normal_form.specs.Grammar.{IsGrammar}
 use Rattle.normal_form.specs.Above.{IsUpRow}
 use Rattle.normal_form.specs.Joins.{IsTable}
 
@@ -18,6 +19,7 @@ pub record AreAbove (rules : List Rule) (above : List (List LabelId)) : Type 0 w
 
 -- the parts of the normal form of these rules
 pub record AreParts (rules : List Rule) (named : List LabelId) (fresh above : List (List LabelId)) (joins : List (List Join)) (empties : List LabelId) : Type 0 where
+  pub grammar_is : IsGrammar rules
   pub named_are : AreNamed named
   pub fresh_are : fresh ≡ fresh_words rules
   pub above_all : length above ≡ 1000 + length fresh

@@ -54,11 +54,12 @@ impl Model for Normal {
 pub fn normalise(alloc: Global, grammar: &Grammar) -> Result<Normal, AllocError>
     ensures { IfOk result (λ n. n ≡ grammar.now) }
 {
-    let lists = normal_lists(alloc, grammar.rules())?;
+    let rules = grammar.rules();
+    let lists = normal_lists(alloc, rules)?;
     let labels = FIRST_FRESH as usize + lists.fresh.len();
-    let above = above_rows(alloc, grammar.rules(), labels)?;
+    let above = above_rows(alloc, rules, labels)?;
     let joins = table_of(alloc, &lists.pairs, &above, FIRST_FRESH as usize)?;
-    let found = named_empties(alloc, grammar.rules())?;
+    let found = named_empties(alloc, rules)?;
     let empties = with_fresh(alloc, &found, &lists.fresh)?;
     Ok(Normal {
         grammar: grammar.copy(alloc)?,
@@ -105,7 +106,6 @@ impl Normal {
         ensures count { result ≡ sum_by fresh_of self.now }
         ensures few { result ≤ 62000 }
     {
-        let _ = self.grammar.rules();
         self.fresh.len()
     }
 
@@ -126,7 +126,7 @@ impl Normal {
     pub fn limits(&self)
         ensures { IsGrammar self.now }
     {
-        let _ = self.grammar.rules();
+        let _ = &self.grammar;
     }
 
     /// The law of the normal form: over each graph whose labels are below 1,000, its closure has an edge exactly where
@@ -134,6 +134,6 @@ impl Normal {
     pub fn closure_is_reach(&self)
         ensures { (g : Graph) (u v : AVertex) (l : ALabel) → IsGraph g → All (λ e. IsNamed e.label) g.edges → IsLabelOf (normal_form self.now) l → (Closure (normal_form self.now) g u l v ↔ Reach g self.now u ((normal_form self.now).stands l) v) }
     {
-        let _ = self.grammar.rules();
+        let _ = &self.grammar;
     }
 }
