@@ -1,13 +1,13 @@
 -- The parts of a normal form.
-use Rattle.std.proofs.Common.{◌≡◌, ℕ, suc, ◌+◌, ◌-◌, ◌*◌, ◌<◌, ◌≤◌, ◌⊎◌, ◌↔◌, List, [], ◌∷◌, ◌++◌, length, get_or, take, drop, refl, sym, ◌∙◌, ap, subst, inl, inr, arith, append-nil}
-use Rattle.std.specs.Prelude.{Contains, All, sum_by}
+use Rattle.std.proofs.Common.{◌≡◌, ℕ, suc, ◌+◌, ◌-◌, ◌<◌, ◌≤◌, ◌⊎◌, ◌↔◌, List, [], ◌∷◌, ◌++◌, length, get_or, take, drop, refl, sym, ◌∙◌, ap, subst, inl, inr, arith, append-nil}
+use Rattle.std.specs.Prelude.{Contains, All}
 use Rattle.std.proofs.lemmas.Bool.{cases_lt}
-use Rattle.std.proofs.lemmas.List.{get_or_append_left, get_or_default, length_push, get_or_push, drop_more}
-use Rattle.std.proofs.lemmas.List.Elements.{All-nil, All-cons, All-head, All-contains, Contains-get_or}
+use Rattle.std.proofs.lemmas.List.{get_or_append_left, length_push, get_or_push, drop_more}
+use Rattle.std.proofs.lemmas.List.Elements.{All-nil, All-cons, All-contains}
 use Rattle.graph_words.specs.declared.types.LabelId.{LabelId}
 use Rattle.graph_words.specs.declared.types.Rule.{Rule}
-use Rattle.graph_words.specs.Reach.{rule, Yields, done, keep, rewrite}
-use Rattle.normal_law.specs.Closure.{IsNamed, IsFresh, IsLabelOf, IsUp, itself, above, IsEmpty, HasNamedLabels}
+use Rattle.graph_words.specs.Reach.{Yields, done, keep, rewrite}
+use Rattle.normal_law.specs.Closure.{IsNamed, IsLabelOf, IsUp, itself, above, IsEmpty, HasNamedLabels}
 use Rattle.normal_law.specs.NormalForm.{fresh_label, fresh_words, all_pairs, stands_for, normal_form}
 use Rattle.normal_law.proofs.Sound.{left_is_named, single_is_named}
 use Rattle.normal_law.proofs.Chains.{stands_for-named, stands_for-fresh, fresh_again}

@@ -1,6 +1,6 @@
 -- Labels in ascending order: the place of a label, and what stands there.
 use Rattle.std.proofs.Common.{◌≡◌, ℕ, zero, suc, ◌+◌, ◌<◌, ◌≤◌, ◌⊎◌, List, [], ◌∷◌, ◌++◌, length, get_or, take, drop, refl, sym, ◌∙◌, ap, subst, inl, inr, arith, ◌-◌, Bool, false, eqb, ◌↔◌}
-use Rattle.std.specs.Prelude.{Contains, All, AllPairs, insert, IsTrue}
+use Rattle.std.specs.Prelude.{Contains, All, insert, IsTrue}
 use Rattle.std.proofs.lemmas.Bool.{false≢true, cases_lt, eqb-true, eq-eqb}
 use Rattle.std.proofs.lemmas.List.{get_or_default, take_more, take_all, take-append-drop}
 use Rattle.std.proofs.lemmas.List.Edits.{length-insert, get_or-insert_below, get_or-insert_at, get_or-insert_above}

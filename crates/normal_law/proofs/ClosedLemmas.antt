@@ -1,11 +1,10 @@
 -- The closure is the least set of edges that is closed over the graph.
-use Rattle.std.proofs.Common.{◌≡◌, refl, sym, subst, List, [], ◌∷◌}
+use Rattle.std.proofs.Common.{refl, sym, subst, List, [], ◌∷◌}
 use Rattle.std.specs.Prelude.{Contains}
 use Rattle.graph_words.specs.declared.types.Vertex.{Vertex}
 use Rattle.graph_words.specs.declared.types.LabelId.{LabelId}
 use Rattle.graph_words.specs.declared.types.Edge.{Edge}
 use Rattle.graph_words.specs.declared.types.Rule.{Rule}
-use Rattle.graph_words.specs.declared.types.PairRule.{PairRule}
 use Rattle.graph_words.specs.Reach.{Graph, edge, rule}
 use Rattle.normal_law.specs.Closure.{Normal, IsUp, itself, above, Closure, given, loop, joined}
 use Rattle.normal_law.specs.Closed.{Joins, IsClosedOver}

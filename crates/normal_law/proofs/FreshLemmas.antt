@@ -1,14 +1,14 @@
 -- Each rule has its own fresh labels.
-use Rattle.std.proofs.Common.{◌≡◌, ℕ, zero, suc, ◌+◌, ◌-◌, ◌*◌, ◌<◌, ◌≤◌, ◌⊎◌, List, [], ◌∷◌, ◌++◌, length, get_or, take, drop, refl, sym, ◌∙◌, ap, subst, inl, inr, arith, length-append}
-use Rattle.std.specs.Prelude.{Contains, All, sum_by, slice_get, Some}
+use Rattle.std.proofs.Common.{◌≡◌, ℕ, zero, suc, ◌+◌, ◌-◌, ◌*◌, ◌<◌, ◌≤◌, ◌⊎◌, List, [], ◌∷◌, ◌++◌, length, get_or, take, drop, refl, ◌∙◌, ap, subst, inl, inr, arith, length-append}
+use Rattle.std.specs.Prelude.{All, sum_by, slice_get, Some}
 use Rattle.std.proofs.lemmas.Bool.{cases_lt}
 use Rattle.std.proofs.lemmas.List.Sums.{sum_by-cons}
 use Rattle.std.proofs.lemmas.List.{get_or_append_left, get_or-append-add}
 use Rattle.std.proofs.lemmas.List.Elements.{All-head, All-tail}
 use Rattle.graph_words.specs.declared.types.LabelId.{LabelId}
 use Rattle.graph_words.specs.declared.types.Rule.{Rule}
-use Rattle.normal_law.specs.Closure.{IsFresh, IsNamed, IsLabelOf}
-use Rattle.normal_law.specs.NormalForm.{fresh_label, suffixes, fresh_words, normal_form}
+use Rattle.normal_law.specs.Closure.{IsFresh}
+use Rattle.normal_law.specs.NormalForm.{suffixes, fresh_words, normal_form}
 use Rattle.normal_law.specs.Fresh.{fresh_of, fresh_before, IsFreshOf}
 
 pub length-suffixes : (right : List LabelId) → length (suffixes right) ≡ length right - 2

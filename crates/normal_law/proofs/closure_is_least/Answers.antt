@@ -1,5 +1,4 @@
 use Rattle.std.specs.Prelude.{IsTrue}
-use Rattle.graph_words.specs.declared.types.Edge.{Edge}
 use Rattle.normal_law.proofs.ClosedLemmas.{Closure-in_closed, IsClosedOver-closure}
 use Rattle.normal_law.proofs.closure_is_least.Goals as goal
 

@@ -1,4 +1,4 @@
-use Rattle.std.proofs.Common.{◌≡◌, List, [], ◌∷◌, ◌++◌, ap, sym, ◌∙◌, subst, arith, ◌<◌, length}
+use Rattle.std.proofs.Common.{◌≡◌, [], ◌∷◌, ◌++◌, ap, sym, ◌∙◌, subst, arith, ◌<◌, length}
 use Rattle.graph_words.specs.declared.types.LabelId.{LabelId}
 use Rattle.normal_form.specs.Above.{AddsAbove}
 use Rattle.normal_form.proofs.AboveLemmas.{IsRising, IsRising-start, IsRising-step, IsRising-end}

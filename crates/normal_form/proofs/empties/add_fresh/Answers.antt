@@ -1,7 +1,6 @@
-use Rattle.std.proofs.Common.{◌≡◌, List, [], get_or, sym, ◌∙◌, subst}
+use Rattle.std.proofs.Common.{◌≡◌, [], get_or, sym, ◌∙◌, subst}
 use Rattle.std.specs.Prelude.{All, Contains}
 use Rattle.std.proofs.lemmas.List.{get_or_default}
-use Rattle.graph_words.specs.declared.types.LabelId.{LabelId}
 use Rattle.normal_form.proofs.RowLemmas.{not_from_false}
 use Rattle.normal_form.proofs.EmptyLemmas.{HasFresh-skip, HasFresh-take}
 use Rattle.normal_form.proofs.empties.add_fresh.Goals as goal

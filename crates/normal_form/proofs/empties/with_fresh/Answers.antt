@@ -1,4 +1,4 @@
-use Rattle.std.proofs.Common.{◌≡◌, ℕ, List, [], length, arith, subst}
+use Rattle.std.proofs.Common.{◌≡◌, ℕ, List, length, arith, subst}
 use Rattle.graph_words.specs.declared.types.LabelId.{LabelId}
 use Rattle.normal_form.specs.Rows.{AddsLabels}
 use Rattle.normal_form.specs.Empty.{HasFresh}

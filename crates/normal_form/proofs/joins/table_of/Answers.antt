@@ -1,4 +1,4 @@
-use Rattle.std.proofs.Common.{◌≡◌, ◌<◌, List, [], length, get_or, sym, ◌∙◌, subst, arith}
+use Rattle.std.proofs.Common.{List, [], get_or, ◌∙◌, subst, arith}
 use Rattle.std.proofs.lemmas.List.{get_or_default}
 use Rattle.graph_words.specs.declared.types.LabelId.{LabelId}
 use Rattle.graph_words.specs.declared.types.PairRule.{PairRule}

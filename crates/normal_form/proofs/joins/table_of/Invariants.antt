@@ -1,4 +1,3 @@
-use Rattle.std.proofs.Common.{take}
 use Rattle.normal_form.proofs.TableLemmas.{IsFilling}
 use Rattle.normal_form.proofs.joins.table_of.Given as goal
 

@@ -1,4 +1,4 @@
-use Rattle.normal_form.proofs.RowLemmas.{is_at_place, not_past}
+use Rattle.normal_form.proofs.RowLemmas.{is_at_place}
 use Rattle.normal_form.proofs.label_row.is_at.Goals as goal
 
 pub returns-then-place-labels : goal.returns-then-place-labels

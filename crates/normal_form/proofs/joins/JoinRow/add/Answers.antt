@@ -1,4 +1,4 @@
-use Rattle.std.proofs.Common.{List, set, [], refl, sym, subst}
+use Rattle.std.proofs.Common.{List, set, refl, sym, subst}
 use Rattle.std.specs.Prelude.{Contains, map}
 use Rattle.std.proofs.lemmas.Result.{on_ok_weaker}
 use Rattle.graph_words.specs.declared.types.LabelId.{LabelId}

@@ -1,6 +1,5 @@
 use Rattle.std.proofs.Common.{List, subst}
 use Rattle.std.specs.Prelude.{Contains, map, ◌↔◌}
-use Rattle.graph_words.specs.declared.types.LabelId.{LabelId}
 use Rattle.normal_form.specs.declared.joins.Join.{Join}
 use Rattle.normal_form.specs.Rows.{PartsAt}
 use Rattle.normal_form.specs.Joins.{second_of, HasJoin}

@@ -14,6 +14,6 @@ returns c =
     let row : c.index_mut.result.now ≡ get_or c.self.inside.rows.items c.args.pair.first.0 [] = c.index_mut.ensures.value ∙ get_or_default rows first.0 _ [] there in
     on_ok_weaker c.add.result
     (λ (a : AddsJoins c.index_mut.result.now c.add.new.self c.args.pair.second c.args.labels.now).
-        subst (λ (t : List (List Join)). AddsAt t (set rows first.0 c.add.new.self) first c.args.pair.second c.args.labels.now) c.self.view_is
-        (AddsAt-row rows first c.args.pair.second c.add.new.self c.args.labels.now there (subst (λ (r : List Join). AddsJoins r c.add.new.self c.args.pair.second c.args.labels.now) row a)))
+    subst (λ (t : List (List Join)). AddsAt t (set rows first.0 c.add.new.self) first c.args.pair.second c.args.labels.now) c.self.view_is
+    (AddsAt-row rows first c.args.pair.second c.add.new.self c.args.labels.now there (subst (λ (r : List Join). AddsJoins r c.add.new.self c.args.pair.second c.args.labels.now) row a)))
     c.add.ensures

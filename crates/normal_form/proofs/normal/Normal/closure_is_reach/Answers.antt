@@ -1,5 +1,4 @@
-use Rattle.std.proofs.Common.{List, subst}
-use Rattle.graph_words.specs.declared.types.Rule.{Rule}
+use Rattle.std.proofs.Common.{subst}
 use Rattle.normal_law.specs.NormalForm.{normal_form}
 use Rattle.normal_law.specs.Closure.{HasNamedLabels}
 use Rattle.normal_law.proofs.Chains.{IsNormalForm-normal_form}

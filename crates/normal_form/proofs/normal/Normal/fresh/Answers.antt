@@ -1,5 +1,4 @@
-use Rattle.std.proofs.Common.{◌≡◌, ◌≤◌, List, length, sym, ◌∙◌, ap, subst, arith}
-use Rattle.graph_words.specs.declared.types.Rule.{Rule}
+use Rattle.std.proofs.Common.{◌≡◌, length, ◌∙◌, ap, arith}
 use Rattle.normal_law.specs.NormalForm.{fresh_words}
 use Rattle.normal_law.proofs.FreshLemmas.{length-fresh_words}
 use Rattle.normal_form.proofs.NormalLemmas.{fresh_few}

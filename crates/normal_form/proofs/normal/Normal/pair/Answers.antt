@@ -1,4 +1,4 @@
-use Rattle.std.proofs.Common.{◌+◌, List, sym, ap, ◌∙◌, length, subst}
+use Rattle.std.proofs.Common.{◌+◌, List, ap, ◌∙◌, length, subst}
 use Rattle.std.specs.Prelude.{Contains, ◌↔◌}
 use Rattle.graph_words.specs.declared.types.LabelId.{LabelId}
 use Rattle.graph_words.specs.declared.types.Rule.{Rule}

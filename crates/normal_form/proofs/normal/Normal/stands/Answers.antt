@@ -1,7 +1,5 @@
-use Rattle.std.proofs.Common.{◌-◌, ◌+◌, List, take, drop, sym, ◌∙◌, ap}
+use Rattle.std.proofs.Common.{◌-◌, ◌+◌, List, take, drop, ◌∙◌, ap}
 use Rattle.graph_words.specs.declared.types.LabelId.{LabelId}
-use Rattle.graph_words.specs.declared.types.Rule.{Rule}
-use Rattle.normal_law.specs.NormalForm.{fresh_words, stands_for}
 use Rattle.normal_form.proofs.NormalLemmas.{stands-named}
 use Rattle.normal_form.proofs.normal.Normal.stands.Goals as goal
 

@@ -1,9 +1,6 @@
 use Rattle.std.proofs.Common.{◌≡◌, ◌+◌, ◌<◌, List, [], length, get_or, sym, ◌∙◌, ap, subst, arith}
-use Rattle.std.specs.Prelude.{Contains, ◌↔◌}
 use Rattle.std.proofs.lemmas.List.{get_or_default}
-use Rattle.graph_words.specs.declared.types.LabelId.{LabelId}
 use Rattle.graph_words.specs.declared.types.Rule.{Rule}
-use Rattle.normal_law.specs.Closure.{IsUp}
 use Rattle.normal_law.specs.NormalForm.{fresh_words}
 use Rattle.normal_form.specs.Above.{IsUpRow}
 use Rattle.normal_form.proofs.normal.Normal.up.Goals as goal
