@@ -1,8 +1,9 @@
 //! The rules of a grammar, within its limits.
-ghost use Rattle.std.specs.Prelude.{◌≡◌, IfOk};
-ghost use Rattle.normal_form.specs.Grammar.{IsGrammar};
+ghost use Rattle.std.specs.Prelude.{◌≡◌, ◌↔◌, All, IsTrue, IfOk};
+ghost use Rattle.normal_law.specs.Closure.{IsNamed};
+ghost use Rattle.normal_form.specs.Grammar.{IsGrammar, IsWithin};
 
-use graph_words::{Rule, Word};
+use graph_words::{LabelId, Rule, Word};
 use std::alloc::{AllocError, Global};
 use std::marker::Model;
 
@@ -68,4 +69,36 @@ fn copy_rule(alloc: Global, rule: &Rule) -> Result<Rule, AllocError>
         left: rule.left,
         right: Word::of(alloc, rule.right.as_slice())?,
     })
+}
+
+/// Whether the rules are within the limits of a grammar: at most 1,000, each with at most 64 labels on the right,
+/// and all labels below 1,000.
+pub fn is_grammar(rules: &[Rule]) -> bool
+    ensures { IsTrue result ↔ IsGrammar rules.now }
+{
+    rules.len() <= 1000 && are_within(rules)
+}
+
+fn are_within(rules: &[Rule]) -> bool
+    ensures { IsTrue result ↔ All IsWithin rules.now }
+{
+    for rule in rules {
+        if !is_within(rule) {
+            return false;
+        }
+    }
+    true
+}
+
+fn is_within(rule: &Rule) -> bool
+    ensures { IsTrue result ↔ IsWithin rule.now }
+{
+    let right = rule.right.as_slice();
+    right.len() <= 64 && rule.left.0 < 1000 && are_named(right)
+}
+
+fn are_named(labels: &[LabelId]) -> bool
+    ensures { IsTrue result ↔ All IsNamed labels.now }
+{
+    labels.iter().all(|label| label.0 < 1000)
 }
