@@ -21,9 +21,11 @@ use std::alloc::{AllocError, Global};
 use std::marker::Model;
 
 /// The normal form of a grammar: each rule with more than two labels on the right is taken apart into rules of two,
-/// by fresh labels that stand for the rest of its right side.
+/// by fresh labels that stand for the rest of its right side. Rules of one label and empty rules stay, as the labels
+/// above each label and the labels that derive the empty word (the binary normal form of Lange and Leiß,
+/// "To CNF or not to CNF?", 2009).
 ///
-/// Contracts see it as the grammar's rules.
+/// Contracts see it as the grammar's rules: what each call answers is stated over `normal_form` of these.
 #[derive(Drop)]
 pub struct Normal {
     grammar: Grammar,
@@ -50,7 +52,7 @@ impl Model for Normal {
     ghost invariant = { λ n. AreParts n.grammar n.named.items n.fresh.items n.above.items n.joins n.empties };
 }
 
-/// The normal form of a grammar.
+/// The normal form of a grammar. Want of memory is its only error.
 pub fn normalise(alloc: Global, grammar: &Grammar) -> Result<Normal, AllocError>
     ensures { IfOk result (λ n. n ≡ grammar.now) }
 {
@@ -74,6 +76,7 @@ pub fn normalise(alloc: Global, grammar: &Grammar) -> Result<Normal, AllocError>
 impl Normal {
     /// The labels that a label b and a label c join to, ascending: every label above A, for each rule `A b c` of the
     /// normal form. It is the empty list where no rule has b and c on its right, whatever labels they are.
+    /// One look by number and one binary search in the row of b, which has an entry for each c that follows it.
     pub fn pair(&self, b: LabelId, c: LabelId) -> &[LabelId]
         ensures ascending { IsAscending result.now }
         ensures each { (a : ALabel) → Contains result.now a ↔ Joins (normal_form self.now) b c a }
