@@ -8,7 +8,7 @@ use std::marker::Model;
 pub struct Vertex(pub u32);
 
 /// A label of a grammar or a graph, by its number.
-#[derive(Clone, Copy, PartialEq, Eq, PartialOrd, Ord, Debug)]
+#[derive(Clone, Copy, Default, PartialEq, Eq, PartialOrd, Ord, Debug)]
 pub struct LabelId(pub u16);
 
 /// An edge from a source to a destination. Edges are ordered by source, then label, then destination.

@@ -3,13 +3,17 @@ ghost use Rattle.std.specs.Prelude.{◌≡◌, ◌↔◌, ◌<◌, ◌^◌, [], 
 ghost use Rattle.normal_form.specs.Rows.{IsAscending, PartsAt, AddsLabel, AddsLabels};
 
 use graph_words::LabelId;
+use smallvec::SmallVec;
 use std::alloc::{AllocError, Global};
 use std::marker::Model;
+
+/// A row of so many labels takes no memory of its own. Most labels have few others above them.
+const SHORT_ROW: usize = 4;
 
 /// Labels in ascending order, each once.
 #[derive(Drop)]
 pub(crate) struct LabelRow {
-    labels: Vec<LabelId>,
+    labels: SmallVec<LabelId, SHORT_ROW>,
 }
 
 impl Model for LabelRow {
@@ -29,7 +33,7 @@ impl LabelRow {
         ensures { result ≡ [] }
     {
         LabelRow {
-            labels: Vec::new(alloc),
+            labels: SmallVec::new(alloc),
         }
     }
 
