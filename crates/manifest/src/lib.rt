@@ -1,0 +1,22 @@
+//! A store's manifest as bytes: what it says of its texts, labels, partitions, counts and marks.
+#![tactic(auto)]
+
+mod cells;
+mod decoding;
+mod encoding;
+mod fields;
+mod labels;
+mod laws;
+mod parts;
+mod types;
+
+pub use decoding::decode;
+pub use encoding::encode;
+pub use laws::{
+    begins_alike, encode_then_decode, has_bytes, magic_is_gsm1, reading_is_spelling,
+    spelling_is_read,
+};
+pub use types::{Manifest, ManifestError, ManifestFault, PartEntry, PartList};
+
+#[cfg(test)]
+mod tests;
