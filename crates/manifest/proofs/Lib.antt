@@ -1,0 +1,5 @@
+pub mod Loops
+pub mod FieldLaws
+pub mod ListLaws
+pub mod BodyLaws
+pub mod Facts
