@@ -1,0 +1,4 @@
+pub mod CodecLemmas
+pub mod CurrentLemmas
+pub mod SlotLemmas
+pub mod SwitchLemmas
