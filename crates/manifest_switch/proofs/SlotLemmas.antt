@@ -1,15 +1,15 @@
 -- What the parts of a commit make of the slots.
-use Rattle.std.proofs.Common.{◌≡◌, ◌≢◌, ◌⊎◌, inl, inr, ℕ, zero, suc, ◌+◌, ◌%◌, ◌<◌, ◌≤◌, List, [], ◌∷◌, ◌++◌, length, slice_index, if◌then◌else◌, refl, sym, ◌∙◌, ap, subst, arith}
+use Rattle.std.proofs.Common.{◌≡◌, ◌≢◌, ◌⊎◌, inl, inr, ℕ, zero, suc, ◌<◌, ◌≤◌, List, [], ◌∷◌, length, slice_index, if◌then◌else◌, refl, sym, ◌∙◌, ap, subst, arith}
 use Rattle.std.specs.Prelude.{Bool, true, false, Option, Some, None, Result, Ok, Err}
-use Rattle.std.proofs.lemmas.Bool.{cases_eq, cases_lt, cases_Bool}
+use Rattle.std.proofs.lemmas.Bool.{cases_eq, cases_lt}
 use Rattle.std.proofs.lemmas.Bool.Decides.{nat_tests}
-use Rattle.disk_model.specs.Disk.{Contents, TornIn, Sets, written}
+use Rattle.disk_model.specs.Disk.{Contents, TornIn, written}
 use Rattle.disk_model.specs.Crash.{From, Mixes}
-use Rattle.disk_model.specs.Sound.{length-written, written-here, written-above, written-below, written-some}
+use Rattle.disk_model.specs.Sound.{length-written, written-here, written-above}
 use Rattle.manifest.specs.declared.types.Manifest.{Manifest}
 use Rattle.manifest.specs.declared.types.ManifestFault.{ManifestFault}
-use Rattle.manifest_switch.specs.Slots.{file_of, other, is_open, open_body, body, chosen, current_of, later_of, next_generation, is_loose, with_closed_gate, IsClosed, IsBlank, HasOnly}
-use Rattle.manifest_switch.specs.Steps.{MayClose, Keeps, Succeeds, IsReady, Opens, Switches, IsPlaced, IsSwitched}
+use Rattle.manifest_switch.specs.Slots.{file_of, other, is_open, open_body, body, chosen, current_of, later_of, next_generation, is_loose, with_closed_gate, IsClosed}
+use Rattle.manifest_switch.specs.Steps.{MayClose, Keeps, Succeeds, IsReady, Opens, Switches}
 use Rattle.manifest_switch.specs.declared.slot.Slot.{Slot}
 use Rattle.manifest_switch.specs.declared.slot.Slot.TheVariants.{Zero, One}
 use Rattle.manifest_switch.specs.declared.slot.Found.{Found}

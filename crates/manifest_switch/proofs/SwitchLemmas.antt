@@ -1,16 +1,16 @@
 -- The parts of a commit one after another, by what a read gives.
-use Rattle.std.proofs.Common.{◌≡◌, ◌≢◌, ◌⊎◌, inl, inr, ℕ, ◌+◌, ◌<◌, ◌≤◌, List, [], ◌∷◌, ◌++◌, length, slice_index, refl, sym, ◌∙◌, ap, subst, arith}
-use Rattle.std.specs.Prelude.{Bool, false, Option, Some, None, Result, Ok, Err}
+use Rattle.std.proofs.Common.{◌≡◌, ◌≢◌, inr, ℕ, List, [], ◌∷◌, slice_index, sym, ◌∙◌, ap, subst, arith}
+use Rattle.std.specs.Prelude.{false, Ok}
 use Rattle.disk_model.specs.Disk.{Contents, Sets, written}
 use Rattle.disk_model.specs.Sound.{written-below, written-lengths}
 use Rattle.manifest.specs.declared.types.Manifest.{Manifest}
-use Rattle.manifest_switch.specs.Slots.{file_of, other, is_open, open_body, body, current_of, next_generation, with_closed_gate, IsClosed, IsBlank, HasOnly}
+use Rattle.manifest_switch.specs.Slots.{file_of, other, is_open, open_body, body, next_generation, with_closed_gate, IsClosed, HasOnly}
 use Rattle.manifest_switch.specs.Steps.{MayClose, Keeps, Opens, Switches, Succeeds, IsReady, IsPlaced, IsSwitched}
 use Rattle.manifest_switch.specs.declared.slot.Slot.{Slot}
 use Rattle.manifest_switch.specs.declared.slot.Slot.TheVariants.{Zero, One}
 use Rattle.manifest_switch.specs.declared.slot.Found.TheVariants.{At}
 use Rattle.manifest_switch.proofs.CodecLemmas.{Says, staged-body}
-use Rattle.manifest_switch.proofs.SlotLemmas.{closed_gate, closed-shut, opened, other_apart, other_twice, current_if_follows, succeeds_same, slot-shut, keeps_opens}
+use Rattle.manifest_switch.proofs.SlotLemmas.{closed_gate, closed-shut, opened, other_apart, other_twice, current_if_follows, succeeds_same, keeps_opens}
 
 staged-closed : (file bytes : List ℕ) → IsClosed file → IsClosed (written file 1 bytes)
 staged-closed file bytes closed =
@@ -69,9 +69,11 @@ module _ (s : Slot) (m : Manifest) (d e : Contents) (placed : IsPlaced s m d e) 
 
   pub may_close : (x : Contents) → ((f : ℕ) → x f ≡ e f) → Succeeds s m d → MayClose (other s) x
   may_close x just follows =
-      inr (m,
+      inr (
+        m,
         current_if_follows s m x (ap open_body (just (file_of s)) ∙ placed.here) (succeeds_same s m d x (just (file_of (other s)) ∙ old_there) follows)
-        ∙ ap (λ (t : Slot). Ok (At t m)) (sym (other_twice s)))
+            ∙ ap (λ (t : Slot). Ok (At t m)) (sym (other_twice s)),
+      )
 
   pub only_one : (x : Contents) → Sets (file_of (other s)) (with_closed_gate (e (file_of (other s)))) e x → HasOnly s m x
   only_one x shuts =

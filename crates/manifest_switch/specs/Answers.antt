@@ -6,9 +6,16 @@ use Rattle.manifest.specs.declared.types.Manifest.{Manifest}
 use Rattle.manifest.specs.declared.types.ManifestFault.{ManifestFault}
 use Rattle.manifest_switch.specs.declared.slot.Slot.{Slot}
 use Rattle.manifest_switch.specs.declared.slot.Found.{Found}
+use Rattle.manifest_switch.specs.declared.slot.Found.TheVariants.{Blank, At}
+use Rattle.manifest.specs.Spelling.{Fits}
 use Rattle.manifest_switch.specs.declared.slot.OpenFault.{OpenFault}
 use Rattle.manifest_switch.specs.declared.slot.OpenFault.TheVariants.{DiskFault, BadStore, NoMemory}
 use Rattle.manifest_switch.specs.Slots.{is_open, bad_body}
+
+-- a manifest that is found keeps the rules of its format
+abbrev pub HoldsFit : Found → Type 0
+HoldsFit Blank = Unit {0}
+HoldsFit (At s m) = Fits m
 
 -- a disk fault comes only where the count rose
 abbrev pub HasOpenCause : {T : Type 0} → ℕ → ℕ → Result T OpenFault → Type 0

@@ -1,5 +1,5 @@
 -- What the parts of a commit make of an image, and what they ask of it.
-use Rattle.std.specs.Prelude.{◌≡◌, ◌≢◌, ◌⊎◌, ℕ, false, List, Option, Some, None, Result, Ok, Err}
+use Rattle.std.specs.Prelude.{◌≡◌, ◌≢◌, ◌⊎◌, ℕ, false, Option, Some, None, Result, Ok, Err}
 use Rattle.disk_model.specs.Disk.{Contents, Rose}
 use Rattle.manifest.specs.declared.types.Manifest.{Manifest}
 use Rattle.manifest_switch.specs.declared.slot.Slot.{Slot}
@@ -7,7 +7,7 @@ use Rattle.manifest_switch.specs.declared.slot.Slot.TheVariants.{Zero}
 use Rattle.manifest_switch.specs.declared.slot.Found.TheVariants.{At}
 use Rattle.manifest_switch.specs.declared.slot.SwitchFault.{SwitchFault}
 use Rattle.manifest_switch.specs.declared.slot.SwitchFault.TheVariants.{DiskFault, NoMemory}
-use Rattle.manifest_switch.specs.Slots.{file_of, other, is_open, open_body, body, current_of, next_generation, IsClosed, HasOnly}
+use Rattle.manifest_switch.specs.Slots.{file_of, other, is_open, open_body, body, current_of, next_generation, HasOnly}
 
 -- the slot isn't open, or the other one is the current one
 abbrev pub MayClose : Slot → Contents → Type 0

@@ -2,10 +2,11 @@
 ghost use Rattle.std.specs.Prelude.{◌≡◌, ◌≢◌, ◌⊎◌, ◌+◌, ◌-◌, ◌<◌, ◌≤◌, ◌^◌, ◌==◌, slice_index, ℕ, Bool, IsTrue, true, false, length, take, drop, Option, Some, None, Ok, Err, OnOk, IfOk, IfSome, option_map};
 ghost use Rattle.disk_model.specs.Disk.{Contents, HasCause};
 ghost use Rattle.manifest.specs.Reading.{reading};
+ghost use Rattle.manifest.specs.Spelling.{Fits};
 ghost use Rattle.manifest_switch.specs.declared.slot.Slot.{Slot};
 ghost use Rattle.manifest_switch.specs.Slots.{file_of, is_open, value_of, open_body, body, chosen, later_of, next_generation, current_of};
 ghost use Rattle.manifest_switch.specs.Looks.{OnlyLooks};
-ghost use Rattle.manifest_switch.specs.Answers.{HasOpenCause, Gives, IsCutShort, AnswersOpen, AnswersSlot, AnswersCurrent};
+ghost use Rattle.manifest_switch.specs.Answers.{HoldsFit, HasOpenCause, Gives, IsCutShort, AnswersOpen, AnswersSlot, AnswersCurrent};
 
 use crate::gates::OPEN;
 use crate::slot::{Found, OpenFault, Slot};
@@ -43,6 +44,7 @@ fn front_says<D: Disk>(
     size: u64,
 ) -> Result<Result<Manifest, ManifestFault>, OpenFault>
     requires { 1 + size < 2 ^ 64 }
+    ensures fits { IfOk result (λ r. IfOk r Fits) }
     ensures says { IsTrue D.tells → Gives result (λ r. r ≡ value_of (reading (take size (drop 1 (D.seen disk.old (file_of slot)))))) }
     ensures looks { OnlyLooks D.seen D.may_leave D.moment D.left_since disk.old disk.new }
     ensures later { D.faults disk.old ≤ D.faults disk.new }
@@ -79,6 +81,7 @@ fn body_of<D: Disk>(
 ) -> Result<Result<Manifest, ManifestFault>, OpenFault>
     requires size { 1 + all < 2 ^ 64 }
     requires all { IsTrue D.tells → length (D.seen disk.old (file_of slot)) ≡ 1 + all }
+    ensures fits { IfOk result (λ r. IfOk r Fits) }
     ensures says { IsTrue D.tells → Gives result (λ r. r ≡ body (D.seen disk.old (file_of slot))) }
     ensures looks { OnlyLooks D.seen D.may_leave D.moment D.left_since disk.old disk.new }
     ensures later { D.faults disk.old ≤ D.faults disk.new }
@@ -127,11 +130,8 @@ fn open_len<D: Disk>(disk: &mut D, slot: Slot) -> Result<Option<u64>, Failed>
 
 // The manifest of a slot, where it is open.
 #[tactic(auto, unfolding(crate::specs::Slots::open_body))]
-fn slot_of<D: Disk>(
-    alloc: Global,
-    disk: &mut D,
-    slot: Slot,
-) -> Result<Option<Manifest>, OpenFault>
+fn slot_of<D: Disk>(alloc: Global, disk: &mut D, slot: Slot) -> Result<Option<Manifest>, OpenFault>
+    ensures fits { IfOk result (λ m. IfSome m Fits) }
     ensures slot { IsTrue D.tells → AnswersSlot slot (open_body (D.seen disk.old (file_of slot))) result }
     ensures looks { OnlyLooks D.seen D.may_leave D.moment D.left_since disk.old disk.new }
     ensures later { D.faults disk.old ≤ D.faults disk.new }
@@ -160,7 +160,10 @@ fn next_generation(generation: u8) -> u8
 // The later of two open slots.
 #[tactic(auto, unfolding(crate::specs::Slots::later_of))]
 fn later_of(first: Manifest, second: Manifest) -> Result<Found, OpenFault>
-    ensures { result ≡ later_of first second }
+    requires first { Fits first }
+    requires second { Fits second }
+    ensures later { result ≡ later_of first second }
+    ensures fits { IfOk result HoldsFit }
 {
     if first.generation == second.generation {
         return Err(OpenFault::BadStore {
@@ -178,7 +181,10 @@ fn later_of(first: Manifest, second: Manifest) -> Result<Found, OpenFault>
 // Which slot is current, by what the two say.
 #[tactic(auto, unfolding(crate::specs::Slots::chosen))]
 fn chosen(first: Option<Manifest>, second: Option<Manifest>) -> Result<Found, OpenFault>
-    ensures { result ≡ chosen (option_map Ok first) (option_map Ok second) }
+    requires first { IfSome first Fits }
+    requires second { IfSome second Fits }
+    ensures chosen { result ≡ chosen (option_map Ok first) (option_map Ok second) }
+    ensures fits { IfOk result HoldsFit }
 {
     match (first, second) {
         (None, None) => Ok(Found::Blank),
@@ -193,9 +199,11 @@ fn chosen(first: Option<Manifest>, second: Option<Manifest>) -> Result<Found, Op
 /// With one open slot that one is current. Of two it is the one whose generation follows the
 /// other's, and equal ones are `BadStore` at place 5 of file 1. Each open slot has to decode: else
 /// the answer is `BadStore` with the first field that breaks its rule, slot 0 first. This holds
-/// where the disk tells its contents. `DiskFault` comes only where the disk's count rose. It
+/// where the disk tells its contents. A manifest that is found keeps the rules of its format, on
+/// any disk. `DiskFault` comes only where the disk's count rose. It
 /// changes nothing, so that a crash at any moment leaves what it could before.
 pub fn current<D: Disk>(alloc: Global, disk: &mut D) -> Result<Found, OpenFault>
+    ensures fits { IfOk result HoldsFit }
     ensures found { IsTrue D.tells → AnswersCurrent (current_of (D.seen disk.old)) result }
     ensures looks { OnlyLooks D.seen D.may_leave D.moment D.left_since disk.old disk.new }
     ensures later { D.faults disk.old ≤ D.faults disk.new }

@@ -1,4 +1,4 @@
-use Rattle.std.proofs.Common.{◌≡◌, ℕ, sym, ◌∙◌, subst}
+use Rattle.std.proofs.Common.{ℕ, subst}
 use Rattle.disk_model.specs.Disk.{TornIn}
 use Rattle.disk_model.specs.Crash.{From}
 use Rattle.disk_model.specs.Run.{one_step, then_no_more}

@@ -1,4 +1,4 @@
-use Rattle.std.proofs.Common.{◌≡◌, ◌≤◌, ◌-◌, min}
+use Rattle.std.proofs.Common.{◌≤◌, ◌-◌, min}
 use Rattle.manifest_switch.specs.Looks.{OnlyLooks}
 use Rattle.manifest_switch.proofs.reading.body_of.Given as goal
 

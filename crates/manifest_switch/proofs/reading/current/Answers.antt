@@ -1,4 +1,4 @@
-use Rattle.std.proofs.Common.{◌≡◌, ℕ, sym, subst}
+use Rattle.std.proofs.Common.{sym, subst}
 use Rattle.std.specs.Prelude.{Result, Ok, Err, option_map}
 use Rattle.disk_model.specs.Disk.{Contents}
 use Rattle.manifest_switch.specs.declared.slot.Slot.TheVariants.{One}
@@ -28,4 +28,4 @@ pub returns-clause-cause : goal.returns-clause-cause
 returns-clause-cause g c =
     let old = g.D.Disk.faults c.args.disk.now in
     let new = g.D.Disk.faults c.slot_of-2.new.disk in
-    subst (λ (r : Result Found OpenFault). HasOpenCause old new r) (sym c.chosen.ensures) (no_disk_fault old new (option_map Ok c.in_ok-first.first) (option_map Ok c.in_ok-second.second))
+    subst (λ (r : Result Found OpenFault). HasOpenCause old new r) (sym c.chosen.ensures.chosen) (no_disk_fault old new (option_map Ok c.in_ok-first.first) (option_map Ok c.in_ok-second.second))

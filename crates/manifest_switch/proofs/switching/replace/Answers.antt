@@ -1,5 +1,4 @@
-use Rattle.std.proofs.Common.{◌≡◌, ℕ, List, sym, ◌∙◌, ap, subst}
-use Rattle.disk_model.specs.Disk.{Contents}
+use Rattle.std.proofs.Common.{ℕ, List, sym, ◌∙◌, subst}
 use Rattle.disk_model.specs.Run.{then_run}
 use Rattle.manifest_switch.specs.Slots.{file_of, IsClosed}
 use Rattle.manifest_switch.specs.Steps.{Keeps, Opens, Switches}

@@ -1,5 +1,5 @@
-use Rattle.std.proofs.Common.{◌≡◌, ℕ, sym, subst, false}
-use Rattle.disk_model.specs.Disk.{Contents, Sets}
+use Rattle.std.proofs.Common.{◌≡◌, sym, subst, false}
+use Rattle.disk_model.specs.Disk.{Sets}
 use Rattle.disk_model.specs.Run.{then_run}
 use Rattle.manifest_switch.specs.Slots.{file_of, other, is_open, with_closed_gate, HasOnly}
 use Rattle.manifest_switch.specs.Steps.{Keeps, MayClose, Succeeds, Switches, IsPlaced, IsSwitched}
