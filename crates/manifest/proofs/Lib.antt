@@ -1,3 +1,5 @@
+pub mod Kept
+pub mod Words
 pub mod Loops
 pub mod FieldLaws
 pub mod ListLaws
