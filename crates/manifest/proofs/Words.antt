@@ -52,6 +52,7 @@ names_apart before x new k d lt same = go (has_name before x) new (list_any_at (
         test : (b : Bool) → same_name x x ≡ b → same_name x x ≡ true
         test true e = e
         test false e = absurd (other_text x x (sym e) refl)
+
     go : (b : Bool) → not b ≡ true → b ≡ true → ⊥
     go true e f = absurd cc
     go false e f = absurd cc
@@ -69,9 +70,9 @@ table_from_labels : (before names : List (List ℕ)) → Apart before → All Is
 table_from_labels before [] apart labels fits = subst (λ (t : List (List ℕ)). Apart t × All IsLabel t) (sym (append-nil before)) (apart, labels)
 table_from_labels before (l ∷ names) apart labels fits =
     subst (λ (t : List (List ℕ)). Apart t × All IsLabel t) (append_assoc before (l ∷ []) names) (table_from_labels (before ++ l ∷ []) names
-      (all_pairs_push (λ x y. x ≢ y) before l apart (names_apart before l fits.1))
-      (All-push IsLabel before l labels (label_from_test l fits.0))
-      fits.2)
+    (all_pairs_push (λ x y. x ≢ y) before l apart (names_apart before l fits.1))
+    (All-push IsLabel before l labels (label_from_test l fits.0))
+    fits.2)
 
 -- ---- partitions
 
@@ -118,9 +119,12 @@ parts_from_words h low before [] (n ∷ newest) cover range own len births = abs
 parts_from_words h low before (p ∷ parts) [] cover range own len births = absurd (omega (arith, len))
 parts_from_words h low before (p ∷ parts) (n ∷ newest) cover range own len births =
     let other : (k : ℕ) (d : PartEntry) → k < length before → (get_or before k d).file ≢ p.file = λ k d lt same.
-      own k (length before) d lt (omega (arith, length-append before (p ∷ parts))) (ap (λ (q : PartEntry). q.file) (get_or_append_left before (p ∷ parts) d k lt) ∙ same ∙ sym (ap (λ (q : PartEntry). q.file) (get_or-append_seam before p parts d))) in
-    (cover_end h.vertices low p parts cover, file_yes before p (All-head InRange p parts range) other, lt-ltb n h.round (All-head (λ n. n < h.round) n newest births),
-      parts_from_words h p.hi (before ++ p ∷ []) parts newest cover.1 (All-tail InRange p parts range) (subst Own (sym (append_assoc before (p ∷ []) parts)) own) (omega (arith, len)) (All-tail (λ n. n < h.round) n newest births))
+    own k (length before) d lt (omega (arith, length-append before (p ∷ parts))) (ap (λ (q : PartEntry). q.file) (get_or_append_left before (p ∷ parts) d k lt) ∙ same ∙ sym (ap (λ (q : PartEntry). q.file) (get_or-append_seam before p parts d))) in (
+      cover_end h.vertices low p parts cover,
+      file_yes before p (All-head InRange p parts range) other,
+      lt-ltb n h.round (All-head (λ n. n < h.round) n newest births),
+      parts_from_words h p.hi (before ++ p ∷ []) parts newest cover.1 (All-tail InRange p parts range) (subst Own (sym (append_assoc before (p ∷ []) parts)) own) (omega (arith, len)) (All-tail (λ n. n < h.round) n newest births),
+    )
 
 -- what the partitions behind those before are
 record PartWords (h : Head) (before parts : List PartEntry) (newest : List ℕ) : Type 0 where
