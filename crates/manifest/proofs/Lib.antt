@@ -5,3 +5,4 @@ pub mod FieldLaws
 pub mod ListLaws
 pub mod BodyLaws
 pub mod Facts
+pub mod PrefixLaws

@@ -8,6 +8,7 @@ mod fields;
 mod labels;
 mod laws;
 mod parts;
+mod prefix_law;
 mod types;
 
 pub use decoding::decode;
@@ -16,6 +17,7 @@ pub use laws::{
     begins_alike, encode_then_decode, has_bytes, magic_is_gsm1, reading_is_spelling,
     spelling_is_read,
 };
+pub use prefix_law::more_bytes_change_nothing;
 pub use types::{Manifest, ManifestError, ManifestFault, PartEntry, PartList};
 
 #[cfg(test)]
