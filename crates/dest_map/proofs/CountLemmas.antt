@@ -1,5 +1,5 @@
 -- Laws of counts.
-use Rattle.std.proofs.Common.{◌≡◌, ℕ, suc, ◌+◌, ◌-◌, ◌<◌, ◌≤◌, ◌⊎◌, Bool, true, false, cond, List, [], ◌∷◌, ◌++◌, length, take, drop, refl, sym, ap, ◌∙◌, arith, inl, inr, length-append, take-append-drop, ◌*◌}
+use Rattle.std.proofs.Common.{◌≡◌, ℕ, suc, ◌+◌, ◌-◌, ◌<◌, ◌≤◌, Bool, true, false, cond, List, [], ◌∷◌, length, take, drop, refl, sym, ap, ◌∙◌, arith, length-append, take-append-drop, ◌*◌}
 use Rattle.std.specs.Prelude.{◌==◌, ◌&&◌, count_by, slice_index_or, IsPermutation}
 use Rattle.std.proofs.Math.Path.{fun_ext}
 use Rattle.std.proofs.lemmas.Bool.{cases_lt}
@@ -8,10 +8,10 @@ use Rattle.std.proofs.lemmas.List.Sums.{sum_by-cons}
 use Rattle.std.proofs.lemmas.List.Sorted.{sum_by_pushed}
 use Rattle.graph_words.specs.declared.types.Born.{Born}
 use Rattle.closing_machine.specs.State.{place, part, target}
-use Rattle.closing_machine.specs.Machine.{high, parent}
+use Rattle.closing_machine.specs.Machine.{parent}
 use Rattle.closing_machine.proofs.Members.{either}
 use Rattle.closing_machine.proofs.Splitting.{place_parent}
-use Rattle.dest_map.specs.Table.{counts_of, is_child, share, split_count}
+use Rattle.dest_map.specs.Table.{counts_of, is_child, split_count}
 use Rattle.dest_map.specs.Counts.{AreShares, IsCountsOf, count_of, cut_ends}
 
 -- one that two tests share is counted by both
@@ -63,9 +63,9 @@ pub data Kind (i a : ℕ) : Type 0 where
 pub kind : (i a : ℕ) → Kind i a
 kind i a =
     either
-      (λ lt. neither (grind (arith, nat_tests)) (λ e. absurd (before lt e)))
-      (λ ge. either (λ lt. (let e : a ≡ i = omega arith in low_child e)) (λ gt. either (λ lt. (let e : a ≡ suc i = omega arith in high_child e)) (λ far. neither (grind (arith, nat_tests)) (λ e. behind far e)) (cases_lt a (suc (suc i)))) (cases_lt a (suc i)))
-      (cases_lt a i)
+    (λ lt. neither (grind (arith, nat_tests)) (λ e. absurd (before lt e)))
+    (λ ge. either (λ lt. (let e : a ≡ i = omega arith in low_child e)) (λ gt. either (λ lt. (let e : a ≡ suc i = omega arith in high_child e)) (λ far. neither (grind (arith, nat_tests)) (λ e. behind far e)) (cases_lt a (suc (suc i)))) (cases_lt a (suc i)))
+    (cases_lt a i)
   where
     before : a < i → parent i a ≡ i → ⊥
     before lt e = grind (arith, nat_tests)

@@ -1,5 +1,5 @@
 -- Laws of square tables.
-use Rattle.std.proofs.Common.{◌≡◌, ◌≢◌, ℕ, suc, ◌+◌, ◌-◌, ◌*◌, ◌/◌, ◌%◌, ◌<◌, ◌≤◌, ◌⊎◌, Bool, true, false, cond, List, [], ◌∷◌, ◌++◌, length, get_or, refl, sym, ap, ◌∙◌, subst, arith, inl, inr, length-append}
+use Rattle.std.proofs.Common.{◌≡◌, ℕ, suc, ◌+◌, ◌-◌, ◌*◌, ◌/◌, ◌%◌, ◌<◌, ◌≤◌, ◌⊎◌, Bool, true, false, cond, List, [], ◌∷◌, ◌++◌, length, get_or, refl, sym, ap, ◌∙◌, subst, arith, inl, inr, length-append}
 use Rattle.std.specs.Prelude.{◌==◌, ◌&&◌}
 use Rattle.std.proofs.Math.ListN.{set}
 use Rattle.std.proofs.Math.Nat.{add-mul, mul-le-mul_right, suc-mul}
@@ -41,11 +41,11 @@ entry_set s i j x xs len li lj a b = by_test (a == i && b == j) refl
 
     apart : (a ≡ i → b ≡ j → ⊥) → entry s (set xs (i * s + j) x) a b ≡ entry s xs a b
     apart ne = either
-      (λ lb.
-         let other : get_or (set xs (i * s + j) x) (a * s + b) 0 ≡ get_or xs (a * s + b) 0 = get_or-set_other xs (i * s + j) (a * s + b) x 0 (λ e. let p = same_place s a b i j lb lj e in ne p.0 p.1) in
-         entry_in s a b (set xs (i * s + j) x) lb ∙ other ∙ sym (entry_in s a b xs lb))
-      (λ gb. entry_right s a b (set xs (i * s + j) x) gb ∙ sym (entry_right s a b xs gb))
-      (cases_lt b s)
+        (λ lb.
+        let other : get_or (set xs (i * s + j) x) (a * s + b) 0 ≡ get_or xs (a * s + b) 0 = get_or-set_other xs (i * s + j) (a * s + b) x 0 (λ e. let p = same_place s a b i j lb lj e in ne p.0 p.1) in
+        entry_in s a b (set xs (i * s + j) x) lb ∙ other ∙ sym (entry_in s a b xs lb))
+        (λ gb. entry_right s a b (set xs (i * s + j) x) gb ∙ sym (entry_right s a b xs gb))
+        (cases_lt b s)
 
     by_test : (t : Bool) → (a == i && b == j) ≡ t → entry s (set xs (i * s + j) x) a b ≡ cond t x (entry s xs a b)
     by_test true e = let ea : a ≡ i = grind (arith, nat_tests) in let eb : b ≡ j = grind (arith, nat_tests) in here ea eb
@@ -109,9 +109,9 @@ filled_row f s i j xs e h =
 pub filled_whole : (f : ℕ → ℕ → ℕ) (s : ℕ) (xs : List ℕ) → IsFilled f s s 0 xs → ((a b : ℕ) → s ≤ a → f a b ≡ 0) → ((a b : ℕ) → s ≤ b → f a b ≡ 0) → (a b : ℕ) → entry s xs a b ≡ f a b
 filled_whole f s xs h under right a b =
     either
-      (λ lb. either (λ la. entry_in s a b xs lb ∙ h.filled a b lb (inl la)) (λ ga. entry_under s a b xs (omega (arith, h.long)) ga ∙ sym (under a b ga)) (cases_lt a s))
-      (λ gb. entry_right s a b xs gb ∙ sym (right a b gb))
-      (cases_lt b s)
+    (λ lb. either (λ la. entry_in s a b xs lb ∙ h.filled a b lb (inl la)) (λ ga. entry_under s a b xs (omega (arith, h.long)) ga ∙ sym (under a b ga)) (cases_lt a s))
+    (λ gb. entry_right s a b xs gb ∙ sym (right a b gb))
+    (cases_lt b s)
 
 -- the same of a table as contracts see it, where v is the number that stood there
 pub map_raised : (s i j v : ℕ) (xs : List ℕ) (m : ℕ × List ℕ) → (s, xs) ≡ m → length xs ≡ s * s → i < m.0 → j < m.0 → v ≡ get_or xs (i * s + j) v → (a b : ℕ) → entry s (set xs (i * s + j) (v + 1)) a b ≡ cond (a == i && b == j) (counts_of m a b + 1) (counts_of m a b)
@@ -152,5 +152,5 @@ split_right old size i row column corner li long right a b le =
 pub filled_split : (m : ℕ × List ℕ) (i : ℕ) (row column corner : List ℕ) (xs : List ℕ) → length m.1 ≡ m.0 * m.0 → i < m.0 → IsPartOf (counts_of m) m.0 i row column → IsFilled (split_count i row column corner (counts_of m)) (m.0 + 1) (m.0 + 1) 0 xs → (a b : ℕ) → entry (m.0 + 1) xs a b ≡ split_count i row column corner (counts_of m) a b
 filled_split m i row column corner xs long li part h =
     filled_whole (split_count i row column corner (counts_of m)) (m.0 + 1) xs h
-      (split_under (counts_of m) m.0 i row column corner li part.column_long (λ a b le. entry_under m.0 a b m.1 long le))
-      (split_right (counts_of m) m.0 i row column corner li part.row_long (λ a b le. entry_right m.0 a b m.1 le))
+    (split_under (counts_of m) m.0 i row column corner li part.column_long (λ a b le. entry_under m.0 a b m.1 long le))
+    (split_right (counts_of m) m.0 i row column corner li part.row_long (λ a b le. entry_right m.0 a b m.1 le))

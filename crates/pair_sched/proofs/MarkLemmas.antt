@@ -1,11 +1,11 @@
 -- Laws of the marks.
-use Rattle.std.proofs.Common.{◌≡◌, ℕ, suc, ◌+◌, ◌-◌, ◌*◌, ◌<◌, ◌≤◌, Bool, true, false, cond, List, length, get_or, ap, refl, sym, ◌∙◌, subst, arith, add-one}
+use Rattle.std.proofs.Common.{◌≡◌, ℕ, suc, ◌+◌, ◌-◌, ◌*◌, ◌<◌, ◌≤◌, true, false, cond, List, length, get_or, ap, ◌∙◌, subst, arith}
 use Rattle.std.specs.Prelude.{◌==◌, ◌&&◌}
 use Rattle.std.specs.List.{insert}
 use Rattle.std.proofs.Math.ListN.{set}
 use Rattle.std.proofs.lemmas.Bool.{cases_lt}
 use Rattle.std.proofs.lemmas.Bool.Decides.{nat_tests}
-use Rattle.std.proofs.lemmas.List.{get_or_past, get_or-set_same, get_or-set_other, length-set}
+use Rattle.std.proofs.lemmas.List.{get_or-set_same, get_or-set_other}
 use Rattle.std.proofs.lemmas.List.Edits.{length-insert, get_or-insert_below, get_or-insert_at, get_or-insert_above}
 use Rattle.closing_machine.specs.Machine.{parent}
 use Rattle.closing_machine.proofs.Members.{either}
@@ -21,8 +21,8 @@ mark_set s i j x xs ys m e len = subst (λ (m : ℕ × List ℕ × List ℕ). i 
 pub marks_split : (m : ℕ × List ℕ × List ℕ) (i : ℕ) (xs : List ℕ) → length m.1 ≡ m.0 * m.0 → i < m.0 → IsFilled (λ a b. joined_of m (parent i a) (parent i b)) (m.0 + 1) (m.0 + 1) 0 xs → (a b : ℕ) → entry (m.0 + 1) xs a b ≡ joined_of m (parent i a) (parent i b)
 marks_split m i xs long li h =
     filled_whole (λ a b. joined_of m (parent i a) (parent i b)) (m.0 + 1) xs h
-      (λ a b le. entry_under m.0 (parent i a) (parent i b) m.1 long (far_parent m.0 i a li le))
-      (λ a b le. entry_right m.0 (parent i a) (parent i b) m.1 (far_parent m.0 i b li le))
+    (λ a b le. entry_under m.0 (parent i a) (parent i b) m.1 long (far_parent m.0 i a li le))
+    (λ a b le. entry_right m.0 (parent i a) (parent i b) m.1 (far_parent m.0 i b li le))
 
 -- the newest births with a partition cut in two
 pub newest_split : (xs : List ℕ) (i low high : ℕ) → i < length xs → (a : ℕ) → get_or (set (insert xs (i + 1) high) i low) a 0 ≡ split_newest i low high (λ a. get_or xs a 0) a

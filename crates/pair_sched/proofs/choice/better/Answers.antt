@@ -1,4 +1,4 @@
-use Rattle.std.proofs.Common.{ℕ, ◌<◌, ◌≤◌, arith, rules}
+use Rattle.std.proofs.Common.{◌<◌, ◌≤◌, rules}
 use Rattle.closing_machine.specs.State.{IsDirtyBy}
 use Rattle.dest_map.specs.Table.{counts_of}
 use Rattle.pair_sched.specs.Marks.{joined_of, newest_of}

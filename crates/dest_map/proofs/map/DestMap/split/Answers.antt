@@ -1,4 +1,4 @@
-use Rattle.std.proofs.Common.{ℕ, List, ◌≡◌, ◌+◌, ◌*◌, length, ap, subst, arith, rules}
+use Rattle.std.proofs.Common.{ℕ, List, ◌≡◌, ◌+◌, ◌*◌, length, subst, arith, rules}
 use Rattle.dest_map.specs.Table.{IsFilled, counts_of, split_count}
 use Rattle.dest_map.proofs.TableLemmas.{filled_split}
 use Rattle.dest_map.proofs.CountLemmas.{counts_split}

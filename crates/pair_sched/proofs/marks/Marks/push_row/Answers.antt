@@ -1,4 +1,4 @@
-use Rattle.std.proofs.Common.{ℕ, List, ◌≡◌, ◌<◌, ◌+◌, ap, arith, ◌∙◌}
+use Rattle.std.proofs.Common.{ℕ, List, ◌≡◌, ◌<◌, ◌+◌, ap, arith}
 use Rattle.closing_machine.specs.Machine.{parent}
 use Rattle.pair_sched.specs.Marks.{joined_of}
 use Rattle.dest_map.proofs.TableLemmas.{filled_more, filled_row}

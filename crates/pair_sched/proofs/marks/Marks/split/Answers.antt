@@ -1,4 +1,4 @@
-use Rattle.std.proofs.Common.{ℕ, List, ◌≡◌, ◌+◌, ◌*◌, ◌<◌, length, ap, subst, arith, rules}
+use Rattle.std.proofs.Common.{ℕ, List, ◌≡◌, ◌+◌, ◌*◌, length, subst, arith, rules}
 use Rattle.closing_machine.specs.Machine.{parent}
 use Rattle.dest_map.specs.Table.{IsFilled}
 use Rattle.pair_sched.specs.Marks.{joined_of}
