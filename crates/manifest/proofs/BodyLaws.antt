@@ -20,6 +20,7 @@ use Rattle.manifest.specs.Reading.{◌>>=◌, field_at, head_at, labels_at, part
 use Rattle.manifest.specs.Spelling.{Spells, head_of, newest_in, head_bytes, label_bytes, parts_bytes, spelling}
 use Rattle.manifest.proofs.Kept.{Kept, HeadFits, LabelsFit, CellsFit, PartsFit}
 use Rattle.manifest.proofs.FieldLaws.{IsBytes, Takes, Takes-then, ReadsField, wide2, step_ok, ok_is, test_ok, field_takes, field_again, head_takes, head_again}
+use Rattle.manifest.proofs.Tables.{length-limits}
 use Rattle.manifest.proofs.ListLaws.{ReadsLabels, ReadsCells, labels_take, labels_again, parts_take, parts_again, cells_take, cells_again, parts_paired}
 
 abbrev pub front_bytes : Head × List (List ℕ) → List ℕ
@@ -204,20 +205,6 @@ widths_within top low (p ∷ parts) fits = (omega (arith, fits.0), widths_within
 at_most_weaker : (top : ℕ) (ws : List ℕ) → top ≤ 16777216 → AllByRecursion (λ b. b ≤ top) ws → AllByRecursion (λ b. b ≤ 16777216) ws
 at_most_weaker top [] le h = tt
 at_most_weaker top (w ∷ ws) le h = (omega (arith, h.0), at_most_weaker top ws le h.1)
-
-length-widths : (low : ℕ) (parts : List PartEntry) → length (widths low parts) ≡ length parts
-length-widths low [] = refl
-length-widths low (p ∷ parts) = ap suc (length-widths p.hi parts)
-
-length-rows : (row : ℕ → List ℕ) (k : ℕ) (ws : List ℕ) → ((a : ℕ) → length (row a) ≡ k) → length (flat_map row ws) ≡ length ws * k
-length-rows row k [] each = omega arith
-length-rows row k (w ∷ ws) each = ap length (flat_map-cons row w ws) ∙ length-append (row w) (flat_map row ws) ∙ omega (arith, each w, length-rows row k ws each, suc-mul (length ws) k)
-
-length-limits : (parts : List PartEntry) → length (count_limits (widths 0 parts)) ≡ length parts * length parts
-length-limits parts =
-    let ws = widths 0 parts in
-    let same : length ws ≡ length parts = length-widths 0 parts in
-    length-rows (λ a. map (λ b. a * b * 63000) ws) (length ws) ws (λ a. length-map ws (λ b. a * b * 63000)) ∙ rw same refl
 
 -- what was read in front of the counts, and what the code has to know of it
 pub record TableKnown (p : List PartEntry × List ℕ) : Type 0 where

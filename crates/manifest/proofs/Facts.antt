@@ -59,11 +59,6 @@ reading_is_spelling bytes x all e =
     let s = counted_ok (length bytes) (body_at bytes) x e in
     subst (λ (y : Manifest × ℕ). Fits y.0 × Spells bytes y.0 y.1) s.count (found bytes s.body (bytes_from_all bytes all) s.is)
 
-pub begins_alike : (bytes behind : List ℕ) (x : Manifest × ℕ) → All (λ b. b < 256) bytes → reading bytes ≡ Ok x → reading (bytes ++ behind) ≡ Ok x
-begins_alike bytes behind x all e =
-    let s = reading_is_spelling bytes x all e in
-    spelling_is_read x.0 (bytes ++ behind) x.1 s.0 (omega (arith, length-append bytes behind, s.1.0), take-append-le x.1 bytes behind s.1.0 ∙ s.1.1)
-
 pub has_bytes : (file : List ℕ) (m : Manifest) → manifest_in (drop 1 file) ≡ Some m → 1 < length file
 unfolding body_at front_at head_at
 has_bytes [] m e = absurd cc

@@ -1,6 +1,6 @@
 -- The rules in words, and as reading asks them.
 use Rattle.std.proofs.Common.{◌≡◌, ◌≢◌, ℕ, zero, suc, ◌+◌, ◌*◌, ◌^◌, ◌<◌, ◌≤◌, Bool, true, false, not, ◌&&◌, ltb, eqb, List, [], ◌∷◌, ◌++◌, length, get_or, replicate, map, refl, sym, ap, subst, ◌∙◌, append_assoc, arith, All, AllPairs, sum}
-use Rattle.std.specs.List.{flat_map, list_any, AllByRecursion, AllZip}
+use Rattle.std.specs.List.{flat_map, list_any, AllByRecursion}
 use Rattle.std.specs.Cmp.Lexicographic.{same_text, other_text}
 use Rattle.std.proofs.Math.Nat.{mul-le-mul}
 use Rattle.std.proofs.Math.Seq.{get_or-append_seam}
@@ -18,7 +18,11 @@ use Rattle.manifest.specs.declared.types.PartEntry.{PartEntry}
 use Rattle.manifest.specs.declared.types.Head.{Head}
 use Rattle.manifest.specs.declared.types.Manifest.{Manifest}
 use Rattle.manifest.specs.Rules.{at_most, is_part_count, is_end, is_file, is_newest, widths, count_limits}
-use Rattle.manifest.specs.Spelling.{Cover, Fits, head_of, newest_in}
+use Rattle.manifest.specs.Spelling.{Cover, Fits, width, head_of, newest_in}
+use Rattle.dest_map.specs.Table.{counts_of}
+use Rattle.pair_sched.specs.Marks.{joined_of, newest_of}
+use Rattle.manifest.proofs.Tables.{length-widths, length-limits, limit_at, entry_at, place_within, by_rows, all_from_places, places_from_all}
+use Rattle.manifest.proofs.ListLaws.{cells_paired}
 use Rattle.manifest.proofs.Kept.{HeadFits, LabelsFit, PartsFit, CellsFit, Kept}
 
 at_most_yes : (limit n : ℕ) → n ≤ limit → at_most limit n ≡ true
@@ -113,7 +117,7 @@ files_apart before p none k d lt same =
     let some : list_any (λ q. eqb q.file p.file) before ≡ true = list_any_at (λ q. eqb q.file p.file) before k d lt (eq-eqb (get_or before k d).file p.file same) in
     absurd cc
 
-parts_from_words : (h : Head) (low : ℕ) (before parts : List PartEntry) (newest : List ℕ) → Cover h.vertices low parts → All InRange parts → Own (before ++ parts) → length newest ≡ length parts → All (λ n. n < h.round) newest → PartsFit h low before parts newest
+parts_from_words : (h : Head) (low : ℕ) (before parts : List PartEntry) (newest : List ℕ) → Cover h.vertices low parts → All InRange parts → Own (before ++ parts) → length newest ≡ length parts → AllByRecursion (λ n. n < h.round) newest → PartsFit h low before parts newest
 parts_from_words h low before [] [] cover range own len births = tt
 parts_from_words h low before [] (n ∷ newest) cover range own len births = absurd (omega (arith, len))
 parts_from_words h low before (p ∷ parts) [] cover range own len births = absurd (omega (arith, len))
@@ -122,8 +126,8 @@ parts_from_words h low before (p ∷ parts) (n ∷ newest) cover range own len b
     own k (length before) d lt (omega (arith, length-append before (p ∷ parts))) (ap (λ (q : PartEntry). q.file) (get_or_append_left before (p ∷ parts) d k lt) ∙ same ∙ sym (ap (λ (q : PartEntry). q.file) (get_or-append_seam before p parts d))) in (
       cover_end h.vertices low p parts cover,
       file_yes before p (All-head InRange p parts range) other,
-      lt-ltb n h.round (All-head (λ n. n < h.round) n newest births),
-      parts_from_words h p.hi (before ++ p ∷ []) parts newest cover.1 (All-tail InRange p parts range) (subst Own (sym (append_assoc before (p ∷ []) parts)) own) (omega (arith, len)) (All-tail (λ n. n < h.round) n newest births),
+      lt-ltb n h.round births.0,
+      parts_from_words h p.hi (before ++ p ∷ []) parts newest cover.1 (All-tail InRange p parts range) (subst Own (sym (append_assoc before (p ∷ []) parts)) own) (omega (arith, len)) births.1,
     )
 
 -- what the partitions behind those before are
@@ -193,17 +197,43 @@ rows_short : (ws vs : List ℕ) → Small ws → Small vs → Short (flat_map (�
 rows_short [] vs small all = tt
 rows_short (w ∷ ws) vs small all = subst Short (sym (flat_map-cons (λ a. map (λ b. a * b * 63000) vs) w ws)) (short_append (map (λ b. w * b * 63000) vs) (flat_map (λ a. map (λ b. a * b * 63000) vs) ws) (row_short w vs small.0 all) (rows_short ws vs small.1 all))
 
-cells_from_zip : (limits cells : List ℕ) → Short limits → AllZip (λ limit n. n ≤ limit) limits cells → CellsFit limits cells
-cells_from_zip [] [] short within = tt
-cells_from_zip [] (n ∷ cells) short within = absurd within
-cells_from_zip (limit ∷ limits) [] short within = absurd within
-cells_from_zip (limit ∷ limits) (n ∷ cells) short within = (at_most_yes limit n within.0, omega (arith, short.0, within.0), cells_from_zip limits cells short.1 within.1)
+cells_from_places : (limits cells : List ℕ) → Short limits → length cells ≡ length limits → ((n : ℕ) → n < length limits → get_or cells n 0 ≤ get_or limits n 0) → CellsFit limits cells
+cells_from_places [] [] short len within = tt
+cells_from_places [] (n ∷ cells) short len within = absurd (omega (arith, len))
+cells_from_places (limit ∷ limits) [] short len within = absurd (omega (arith, len))
+cells_from_places (limit ∷ limits) (n ∷ cells) short len within =
+    let le : n ≤ limit = within 0 (omega arith) in
+    (at_most_yes limit n le, omega (arith, short.0, le), cells_from_places limits cells short.1 (omega (arith, len)) (λ k lt. within (suc k) (omega (arith, lt))))
 
-zip_from_cells : (limits cells : List ℕ) → CellsFit limits cells → AllZip (λ limit n. n ≤ limit) limits cells
-zip_from_cells [] [] fits = tt
-zip_from_cells [] (n ∷ cells) fits = absurd fits
-zip_from_cells (limit ∷ limits) [] fits = absurd fits
-zip_from_cells (limit ∷ limits) (n ∷ cells) fits = (at_most_says limit n fits.0, zip_from_cells limits cells fits.2)
+places_from_cells : (limits cells : List ℕ) → CellsFit limits cells → (n : ℕ) → n < length limits → get_or cells n 0 ≤ get_or limits n 0
+places_from_cells [] [] fits n lt = absurd (omega (arith, lt))
+places_from_cells [] (c ∷ cells) fits n lt = absurd fits
+places_from_cells (limit ∷ limits) [] fits n lt = absurd fits
+places_from_cells (limit ∷ limits) (c ∷ cells) fits zero lt = at_most_says limit c fits.0
+places_from_cells (limit ∷ limits) (c ∷ cells) fits (suc n) lt = places_from_cells limits cells fits.2 n (omega (arith, lt))
+
+-- the counts of a map within their limits, by rows and columns and in one list
+counts_from_words : (m : Manifest) → Fits m → Short (count_limits (widths 0 m.parts)) → CellsFit (count_limits (widths 0 m.parts)) m.map.1
+counts_from_words m f short =
+    let ws = widths 0 m.parts in
+    let k = length m.parts in
+    let wide : length ws ≡ k = length-widths 0 m.parts in
+    let long : length (count_limits ws) ≡ k * k = length-limits m.parts in
+    let each : (i j : ℕ) → i < k → j < k → get_or m.map.1 (i * k + j) 0 ≤ get_or (count_limits ws) (i * k + j) 0 = λ i j li lj.
+      let limit : get_or (count_limits ws) (i * k + j) 0 ≡ get_or ws i 0 * get_or ws j 0 * 63000 = ap (λ (n : ℕ). get_or (count_limits ws) (i * n + j) 0) (sym wide) ∙ limit_at ws i j (omega (arith, wide, li)) (omega (arith, wide, lj)) in
+      let le : counts_of m.map i j ≤ get_or ws i 0 * get_or ws j 0 * 63000 = f.counts i j li lj in
+      subst (λ (n : ℕ). get_or m.map.1 (i * k + j) 0 ≤ n) (sym limit) (subst (λ (n : ℕ). n ≤ get_or ws i 0 * get_or ws j 0 * 63000) (entry_at k m.map.0 m.map.1 i j f.map.size lj) le) in
+    cells_from_places (count_limits ws) m.map.1 short (f.map.rows ∙ sym long) (λ n lt. by_rows (λ n. get_or m.map.1 n 0 ≤ get_or (count_limits ws) n 0) k each n (omega (arith, lt, long)))
+
+words_from_counts : (m : Manifest) → Kept m → (i j : ℕ) → i < length m.parts → j < length m.parts → counts_of m.map i j ≤ width m i * width m j * 63000
+words_from_counts m f i j li lj =
+    let ws = widths 0 m.parts in
+    let k = length m.parts in
+    let wide : length ws ≡ k = length-widths 0 m.parts in
+    let long : length (count_limits ws) ≡ k * k = length-limits m.parts in
+    let limit : get_or (count_limits ws) (i * k + j) 0 ≡ get_or ws i 0 * get_or ws j 0 * 63000 = ap (λ (n : ℕ). get_or (count_limits ws) (i * n + j) 0) (sym wide) ∙ limit_at ws i j (omega (arith, wide, li)) (omega (arith, wide, lj)) in
+    let le : get_or m.map.1 (i * k + j) 0 ≤ get_or (count_limits ws) (i * k + j) 0 = places_from_cells (count_limits ws) m.map.1 f.counts (i * k + j) (omega (arith, place_within k i j li lj, long)) in
+    subst (λ (n : ℕ). n ≤ get_or ws i 0 * get_or ws j 0 * 63000) (sym (entry_at k m.map.0 m.map.1 i j f.map_size lj)) (subst (λ (n : ℕ). get_or m.map.1 (i * k + j) 0 ≤ n) limit le)
 
 marks_from_words : (k round : ℕ) (cells : List ℕ) → round < 2 ^ 64 → length cells ≡ k → AllByRecursion (λ n. n ≤ round) cells → CellsFit (replicate k round) cells
 marks_from_words zero round [] small len within = tt
@@ -218,6 +248,17 @@ words_from_marks (suc k) round [] fits = absurd fits
 words_from_marks (suc k) round (n ∷ cells) fits =
     let more = words_from_marks k round cells fits.2 in
     (ap suc more.0, (at_most_says round n fits.0, more.1))
+
+joined_from_words : (m : Manifest) → Fits m → AllByRecursion (λ n. n ≤ m.round) m.marks.1
+joined_from_words m f =
+    let k = length m.parts in
+    let each : (i j : ℕ) → i < k → j < k → get_or m.marks.1 (i * k + j) 0 ≤ m.round = λ i j li lj. subst (λ (n : ℕ). n ≤ m.round) (entry_at k m.marks.0 m.marks.1 i j f.marks.size lj) (f.joined i j li lj) in
+    all_from_places (λ n. n ≤ m.round) m.marks.1 (λ n lt. by_rows (λ n. get_or m.marks.1 n 0 ≤ m.round) k each n (omega (arith, lt, f.marks.rows)))
+
+words_from_joined : (m : Manifest) → Kept m → length m.marks.1 ≡ length m.parts * length m.parts → AllByRecursion (λ n. n ≤ m.round) m.marks.1 → (i j : ℕ) → i < length m.parts → j < length m.parts → joined_of m.marks i j ≤ m.round
+words_from_joined m f long all i j li lj =
+    let k = length m.parts in
+    subst (λ (n : ℕ). n ≤ m.round) (sym (entry_at k m.marks.0 m.marks.1 i j f.marks_size lj)) (places_from_all (λ n. n ≤ m.round) m.marks.1 all (i * k + j) (omega (arith, place_within k i j li lj, long)))
 
 -- ---- the whole
 
@@ -236,11 +277,11 @@ kept_from_words m f =
       label_count = at_most_yes 1000 (length m.labels) f.labels.short;
       labels = labels_from_table [] m.labels f.labels.once f.labels.labels;
       part_count = part_count_yes m.vertices m.parts f.few f.cover;
-      parts = parts_from_words (head_of m) 0 [] m.parts (newest_in m) f.cover f.files f.files_once f.newest_each f.newest;
-      map_size = f.map_size;
-      marks_size = f.marks_size;
-      counts = cells_from_zip (count_limits (widths 0 m.parts)) m.map.1 (rows_short (widths 0 m.parts) (widths 0 m.parts) small small) f.counts;
-      joined = marks_from_words (length m.parts * length m.parts) m.round m.marks.1 f.rounds f.joined_each (recursion_from_All (λ n. n ≤ m.round) m.marks.1 f.joined);
+      parts = parts_from_words (head_of m) 0 [] m.parts (newest_in m) f.cover f.files f.files_once f.marks.births (all_from_places (λ n. n < m.round) (newest_in m) (λ i lt. f.newest i (omega (arith, lt, f.marks.births))));
+      map_size = f.map.size;
+      marks_size = f.marks.size;
+      counts = counts_from_words m f (rows_short (widths 0 m.parts) (widths 0 m.parts) small small);
+      joined = marks_from_words (length m.parts * length m.parts) m.round m.marks.1 f.rounds f.marks.rows (joined_from_words m f);
       reached = at_most_yes (1 + sum m.map.1) m.round f.reached;
     }
 
@@ -261,13 +302,11 @@ words_from_kept m k =
       cover = cover_from (head_of m) m.parts (newest_in m) k.part_count k.parts;
       files = p.range;
       files_once = p.own;
-      newest_each = p.len;
-      newest = All-from_recursion (λ n. n < m.round) (newest_in m) p.births;
-      map_size = k.map_size;
-      counts = zip_from_cells (count_limits (widths 0 m.parts)) m.map.1 k.counts;
-      marks_size = k.marks_size;
-      joined_each = j.0;
-      joined = All-from_recursion (λ n. n ≤ m.round) m.marks.1 j.1;
+      map = record { size = k.map_size; rows = cells_paired (count_limits (widths 0 m.parts)) m.map.1 k.counts ∙ length-limits m.parts };
+      counts = words_from_counts m k;
+      marks = record { size = k.marks_size; rows = j.0; births = p.len };
+      newest = λ i lt. places_from_all (λ n. n < m.round) (newest_in m) p.births i (omega (arith, lt, p.len));
+      joined = words_from_joined m k j.0 j.1;
       reached = at_most_says (1 + sum m.map.1) m.round k.reached;
     }
   where

@@ -1,12 +1,14 @@
 -- Which manifests keep the rules, and their one spelling.
-use Rattle.std.specs.Prelude.{◌≡◌, ◌≢◌, ℕ, ◌+◌, ◌*◌, ◌^◌, ◌<◌, ◌≤◌, take, List, [], ◌∷◌, ◌++◌, length, sum, All, AllPairs}
-use Rattle.std.specs.List.{flat_map, AllZip}
+use Rattle.std.specs.Prelude.{◌≡◌, ◌≢◌, ℕ, ◌+◌, ◌*◌, ◌^◌, ◌<◌, ◌≤◌, take, List, [], ◌∷◌, ◌++◌, length, sum, slice_index_or, All, AllPairs}
+use Rattle.std.specs.List.{flat_map}
 use Rattle.byteorder.specs.Endian.{little_bytes}
 use Rattle.label_table.specs.Names.{IsTable}
+use Rattle.dest_map.specs.Table.{counts_of}
+use Rattle.pair_sched.specs.Marks.{joined_of, newest_of}
 use Rattle.manifest.specs.declared.types.PartEntry.{PartEntry}
 use Rattle.manifest.specs.declared.types.Head.{Head}
 use Rattle.manifest.specs.declared.types.Manifest.{Manifest}
-use Rattle.manifest.specs.Rules.{widths, count_limits, first_magic}
+use Rattle.manifest.specs.Rules.{widths, first_magic}
 
 -- the numbers in front
 abbrev pub head_of : Manifest → Head
@@ -53,6 +55,21 @@ abbrev pub Cover : ℕ → ℕ → List PartEntry → Type 0
 Cover top low [] = low ≡ top
 Cover top low (p ∷ parts) = (low < p.hi) × Cover top p.hi parts
 
+-- how many vertices partition i has
+abbrev pub width : Manifest → ℕ → ℕ
+width m i = slice_index_or (widths 0 m.parts) i 0
+
+-- a map of k partitions: k rows of k counts
+pub record IsMap (k : ℕ) (map : ℕ × List ℕ) : Type 0 where
+  pub size : map.0 ≡ k
+  pub rows : length map.1 ≡ k * k
+
+-- marks of k partitions: k rows of k joined marks, and k newest births
+pub record AreMarks (k : ℕ) (marks : ℕ × List ℕ × List ℕ) : Type 0 where
+  pub size : marks.0 ≡ k
+  pub rows : length marks.1 ≡ k * k
+  pub births : length marks.2 ≡ k
+
 -- a manifest keeps the rules
 pub record Fits (m : Manifest) : Type 0 where
   pub generation : m.generation ≤ 2
@@ -66,11 +83,9 @@ pub record Fits (m : Manifest) : Type 0 where
   pub cover : Cover m.vertices 0 m.parts
   pub files : All (λ p. (4 ≤ p.file) × (p.file ≤ 1023)) m.parts
   pub files_once : AllPairs (λ p q. p.file ≢ q.file) m.parts
-  pub newest_each : length (newest_in m) ≡ length m.parts
-  pub newest : All (λ n. n < m.round) (newest_in m)
-  pub map_size : m.map.0 ≡ length m.parts
-  pub counts : AllZip (λ limit n. n ≤ limit) (count_limits (widths 0 m.parts)) m.map.1
-  pub marks_size : m.marks.0 ≡ length m.parts
-  pub joined_each : length m.marks.1 ≡ length m.parts * length m.parts
-  pub joined : All (λ n. n ≤ m.round) m.marks.1
+  pub map : IsMap (length m.parts) m.map
+  pub counts : (i j : ℕ) → i < length m.parts → j < length m.parts → counts_of m.map i j ≤ width m i * width m j * 63000
   pub reached : m.round ≤ 1 + sum m.map.1
+  pub marks : AreMarks (length m.parts) m.marks
+  pub newest : (i : ℕ) → i < length m.parts → newest_of m.marks i < m.round
+  pub joined : (i j : ℕ) → i < length m.parts → j < length m.parts → joined_of m.marks i j ≤ m.round
