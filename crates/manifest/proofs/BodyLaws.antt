@@ -1,22 +1,20 @@
 -- A body that is read is the spelling of what was read, and a spelling is read again.
-use Rattle.std.proofs.Common.{◌≡◌, ℕ, suc, ◌+◌, ◌-◌, ◌*◌, ◌^◌, ◌<◌, ◌≤◌, true, cond, List, [], ◌∷◌, ◌++◌, length, replicate, map, take, drop, Result, Ok, Err, refl, sym, ap, subst, ◌∙◌, append_assoc, arith, All, length-append}
+use Rattle.std.proofs.Common.{◌≡◌, ℕ, ◌+◌, ◌-◌, ◌*◌, ◌^◌, ◌<◌, ◌≤◌, true, cond, List, [], ◌∷◌, ◌++◌, length, replicate, take, drop, Result, Ok, Err, refl, sym, ap, subst, ◌∙◌, append_assoc, arith, All, length-append}
 use Rattle.std.specs.List.{flat_map, AllByRecursion}
 use Rattle.std.proofs.lemmas.Bool.Decides.{nat_tests}
-use Rattle.std.proofs.Math.Nat.{mul-le-mul_right, suc-mul}
-use Rattle.std.proofs.lemmas.List.{length-map, length-replicate, drop_at, take_at, take-append-drop, length-drop, length_push}
+use Rattle.std.proofs.Math.Nat.{mul-le-mul_right}
+use Rattle.std.proofs.lemmas.List.{length-replicate, take_at, take-append-drop, length-drop, length_push}
 use Rattle.std.proofs.lemmas.List.Elements.{All-from_recursion}
-use Rattle.std.proofs.lemmas.List.Concat.{flat_map-cons}
 use Rattle.byteorder.specs.Endian.{little_bytes}
 use Rattle.disk_model.specs.declared.form_kind.FormKind.{FormKind}
 use Rattle.disk_model.specs.declared.form_kind.FormKind.TheVariants.{BadNumber, BadParts, BadCount, BadMark}
 use Rattle.manifest.specs.declared.types.Broken.{Broken}
 use Rattle.manifest.specs.declared.types.Head.{Head}
 use Rattle.manifest.specs.declared.types.PartEntry.{PartEntry}
-use Rattle.graph_words.specs.Text.{is_label_word}
 use Rattle.manifest.specs.declared.types.Manifest.{Manifest}
 use Rattle.manifest.specs.declared.types.ManifestFault.{ManifestFault}
 use Rattle.manifest.specs.Rules.{at_most, is_label_count, is_part_count, is_end, widths, count_limits, is_reached}
-use Rattle.manifest.specs.Reading.{◌>>=◌, field_at, head_at, labels_at, parts_at, cells_at, front_at, table_at, manifest_of, body_at, counted, reading}
+use Rattle.manifest.specs.Reading.{◌>>=◌, field_at, head_at, labels_at, parts_at, cells_at, front_at, table_at, manifest_of, body_at}
 use Rattle.manifest.specs.Spelling.{Spells, head_of, newest_in, head_bytes, label_bytes, parts_bytes, spelling}
 use Rattle.manifest.proofs.Kept.{Kept, HeadFits, LabelsFit, CellsFit, PartsFit}
 use Rattle.manifest.proofs.FieldLaws.{IsBytes, Takes, Takes-then, ReadsField, wide2, step_ok, ok_is, test_ok, field_takes, field_again, head_takes, head_again}

@@ -1,10 +1,10 @@
 -- What is read is what is spelled, whatever stands behind it.
-use Rattle.std.proofs.Common.{◌≡◌, ℕ, suc, ◌+◌, ◌-◌, ◌<◌, ◌≤◌, List, [], ◌∷◌, ◌++◌, length, get_or, take, drop, Result, Ok, Err, Some, None, refl, sym, ap, subst, ◌∙◌, arith, inl, inr, All}
+use Rattle.std.proofs.Common.{◌≡◌, ℕ, ◌-◌, ◌<◌, List, [], ◌∷◌, length, drop, Result, Ok, Err, Some, refl, ap, subst, ◌∙◌, arith, inl, inr, All}
 use Rattle.std.proofs.lemmas.Bool.{cases_lt}
-use Rattle.std.proofs.lemmas.List.{length-append, length-drop, get_or_past, take-append-le}
+use Rattle.std.proofs.lemmas.List.{length-drop, get_or_past}
 use Rattle.manifest.specs.declared.types.Manifest.{Manifest}
 use Rattle.manifest.specs.declared.types.ManifestFault.{ManifestFault}
-use Rattle.manifest.specs.Spelling.{Fits, Spells, spelling}
+use Rattle.manifest.specs.Spelling.{Fits, Spells}
 use Rattle.manifest.specs.Reading.{Read, head_at, front_at, body_at, counted, reading, manifest_in}
 use Rattle.manifest.proofs.FieldLaws.{IsBytes}
 use Rattle.manifest.proofs.BodyLaws.{again_at, ok_found, ok_only, err_only}

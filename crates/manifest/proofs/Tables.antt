@@ -1,5 +1,5 @@
 -- Tables that are kept row after row: how long they are, and what stands in row i and column j.
-use Rattle.std.proofs.Common.{◌≡◌, ℕ, zero, suc, ◌+◌, ◌*◌, ◌/◌, ◌%◌, ◌<◌, ◌≤◌, List, [], ◌∷◌, ◌++◌, length, take, map, get_or, refl, sym, ap, subst, ◌∙◌, arith}
+use Rattle.std.proofs.Common.{◌≡◌, ℕ, zero, suc, ◌+◌, ◌*◌, ◌/◌, ◌%◌, ◌<◌, ◌≤◌, List, [], ◌∷◌, length, take, map, get_or, refl, sym, ap, subst, ◌∙◌, arith}
 use Rattle.std.specs.List.{flat_map, AllByRecursion}
 use Rattle.std.proofs.Math.Nat.{mul-le-mul_right, suc-mul, div-lt_iff_lt-mul, mod-lt}
 use Rattle.std.proofs.lemmas.Nat.{div-add-mod'}
@@ -23,7 +23,6 @@ length-limits parts =
     let ws = widths 0 parts in
     let same : length ws ≡ length parts = length-widths 0 parts in
     length-rows (λ a. map (λ b. a * b * 63000) ws) (length ws) ws (λ a. length-map ws (λ b. a * b * 63000)) ∙ rw same refl
-
 
 -- the limit in row i and column j
 pub limit_at : (ws : List ℕ) (i j : ℕ) → i < length ws → j < length ws → get_or (count_limits ws) (i * length ws + j) 0 ≡ get_or ws i 0 * get_or ws j 0 * 63000

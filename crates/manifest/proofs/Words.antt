@@ -1,29 +1,29 @@
 -- The rules in words, and as reading asks them.
-use Rattle.std.proofs.Common.{◌≡◌, ◌≢◌, ℕ, zero, suc, ◌+◌, ◌*◌, ◌^◌, ◌<◌, ◌≤◌, Bool, true, false, not, ◌&&◌, ltb, eqb, List, [], ◌∷◌, ◌++◌, length, get_or, replicate, map, refl, sym, ap, subst, ◌∙◌, append_assoc, arith, All, AllPairs, sum}
+use Rattle.std.proofs.Common.{◌≡◌, ◌≢◌, ℕ, zero, suc, ◌+◌, ◌*◌, ◌^◌, ◌<◌, ◌≤◌, Bool, true, false, not, ◌&&◌, eqb, List, [], ◌∷◌, ◌++◌, length, get_or, replicate, map, refl, sym, ap, subst, ◌∙◌, append_assoc, arith, All, AllPairs, sum}
 use Rattle.std.specs.List.{flat_map, list_any, AllByRecursion}
 use Rattle.std.specs.Cmp.Lexicographic.{same_text, other_text}
 use Rattle.std.proofs.Math.Nat.{mul-le-mul}
 use Rattle.std.proofs.Math.Seq.{get_or-append_seam}
 use Rattle.std.proofs.lemmas.Bool.{le-ltb, lt-ltb, ltb-true, eq-eqb, eqb-true}
 use Rattle.std.proofs.lemmas.Bool.Decides.{nat_tests}
-use Rattle.std.proofs.lemmas.List.{length-append, append-nil, get_or_append_left, length-replicate}
+use Rattle.std.proofs.lemmas.List.{length-append, append-nil, get_or_append_left}
 use Rattle.std.proofs.lemmas.List.Concat.{flat_map-cons}
-use Rattle.std.proofs.lemmas.List.Elements.{All-push, All-head, All-tail, All-from_recursion, recursion_from_All}
+use Rattle.std.proofs.lemmas.List.Elements.{All-push, All-head, All-tail, recursion_from_All}
 use Rattle.std.proofs.lemmas.List.Folds.{list_any_none, list_any_at}
 use Rattle.std.proofs.lemmas.List.Quantifiers.{all_pairs_push}
-use Rattle.graph_words.specs.Text.{IsLabel, is_label_word, same_name}
+use Rattle.graph_words.specs.Text.{IsLabel, same_name}
 use Rattle.graph_words.proofs.TestLemmas.{label_yes, label_from_test}
-use Rattle.label_table.specs.Names.{IsTable, has_name}
+use Rattle.label_table.specs.Names.{has_name}
 use Rattle.manifest.specs.declared.types.PartEntry.{PartEntry}
 use Rattle.manifest.specs.declared.types.Head.{Head}
 use Rattle.manifest.specs.declared.types.Manifest.{Manifest}
-use Rattle.manifest.specs.Rules.{at_most, is_part_count, is_end, is_file, is_newest, widths, count_limits}
+use Rattle.manifest.specs.Rules.{at_most, is_part_count, is_end, is_file, widths, count_limits}
 use Rattle.manifest.specs.Spelling.{Cover, Fits, width, head_of, newest_in}
 use Rattle.dest_map.specs.Table.{counts_of}
-use Rattle.pair_sched.specs.Marks.{joined_of, newest_of}
+use Rattle.pair_sched.specs.Marks.{joined_of}
 use Rattle.manifest.proofs.Tables.{length-widths, length-limits, limit_at, entry_at, place_within, by_rows, all_from_places, places_from_all}
 use Rattle.manifest.proofs.ListLaws.{cells_paired}
-use Rattle.manifest.proofs.Kept.{HeadFits, LabelsFit, PartsFit, CellsFit, Kept}
+use Rattle.manifest.proofs.Kept.{LabelsFit, PartsFit, CellsFit, Kept}
 
 at_most_yes : (limit n : ℕ) → n ≤ limit → at_most limit n ≡ true
 at_most_yes limit n le = ap not (le-ltb limit n le)
@@ -220,9 +220,9 @@ counts_from_words m f short =
     let wide : length ws ≡ k = length-widths 0 m.parts in
     let long : length (count_limits ws) ≡ k * k = length-limits m.parts in
     let each : (i j : ℕ) → i < k → j < k → get_or m.map.1 (i * k + j) 0 ≤ get_or (count_limits ws) (i * k + j) 0 = λ i j li lj.
-      let limit : get_or (count_limits ws) (i * k + j) 0 ≡ get_or ws i 0 * get_or ws j 0 * 63000 = ap (λ (n : ℕ). get_or (count_limits ws) (i * n + j) 0) (sym wide) ∙ limit_at ws i j (omega (arith, wide, li)) (omega (arith, wide, lj)) in
-      let le : counts_of m.map i j ≤ get_or ws i 0 * get_or ws j 0 * 63000 = f.counts i j li lj in
-      subst (λ (n : ℕ). get_or m.map.1 (i * k + j) 0 ≤ n) (sym limit) (subst (λ (n : ℕ). n ≤ get_or ws i 0 * get_or ws j 0 * 63000) (entry_at k m.map.0 m.map.1 i j f.map.size lj) le) in
+    let limit : get_or (count_limits ws) (i * k + j) 0 ≡ get_or ws i 0 * get_or ws j 0 * 63000 = ap (λ (n : ℕ). get_or (count_limits ws) (i * n + j) 0) (sym wide) ∙ limit_at ws i j (omega (arith, wide, li)) (omega (arith, wide, lj)) in
+    let le : counts_of m.map i j ≤ get_or ws i 0 * get_or ws j 0 * 63000 = f.counts i j li lj in
+    subst (λ (n : ℕ). get_or m.map.1 (i * k + j) 0 ≤ n) (sym limit) (subst (λ (n : ℕ). n ≤ get_or ws i 0 * get_or ws j 0 * 63000) (entry_at k m.map.0 m.map.1 i j f.map.size lj) le) in
     cells_from_places (count_limits ws) m.map.1 short (f.map.rows ∙ sym long) (λ n lt. by_rows (λ n. get_or m.map.1 n 0 ≤ get_or (count_limits ws) n 0) k each n (omega (arith, lt, long)))
 
 words_from_counts : (m : Manifest) → Kept m → (i j : ℕ) → i < length m.parts → j < length m.parts → counts_of m.map i j ≤ width m i * width m j * 63000

@@ -1,5 +1,5 @@
 -- Reading a manifest's body field by field, from left to right, up to the first field that breaks its rule.
-use Rattle.std.specs.Prelude.{◌≡◌, ◌≤◌, ℕ, zero, suc, ◌+◌, ◌-◌, ◌*◌, Bool, not, nat_lt, if◌then◌else◌, List, [], ◌∷◌, ◌++◌, length, drop, take, replicate, Option, Some, None, Result, Ok, Err}
+use Rattle.std.specs.Prelude.{◌≡◌, ℕ, zero, suc, ◌+◌, ◌-◌, ◌*◌, Bool, not, nat_lt, if◌then◌else◌, List, [], ◌∷◌, ◌++◌, length, drop, take, replicate, Option, Some, None, Result, Ok, Err}
 use Rattle.byteorder.specs.Endian.{little_number}
 use Rattle.disk_model.specs.declared.form_kind.FormKind.{FormKind}
 use Rattle.disk_model.specs.declared.form_kind.FormKind.TheVariants.{BadMagic, Short, BadNumber, BadLabel, RepeatedLabel, BadParts, BadFile, BadCount, BadMark}

@@ -31,6 +31,8 @@ fn breaks(alloc: Global, bytes: &[u8], place: u64, kind: FormKind) -> bool {
 fn a_finished_store(rt: HostRuntime) -> Result<(), Fail> {
     let alloc = rt.alloc();
     let (m, used) = decode(alloc, &BODY).ok().ok_or("a manifest")?;
+    let again = encode(alloc, &m)?;
+    assert_eq!(rt; again.as_slice(), BODY.as_slice());
     assert_eq!(rt; used, 75);
     assert_eq!(rt; (m.generation, m.round, m.vertices), (1, 2, 3));
     assert_eq!(rt; (m.grammar_len, m.edges_len), (6, 12));
@@ -42,7 +44,6 @@ fn a_finished_store(rt: HostRuntime) -> Result<(), Fail> {
     assert_eq!(rt; m.map.counts(), [3].as_slice());
     assert_eq!(rt; m.marks.joined_rows(), [2].as_slice());
     assert_eq!(rt; m.marks.newest_rows(), [1].as_slice());
-    assert_eq!(rt; encode(alloc, &m)?.as_slice(), BODY.as_slice());
     let copy = m.copy()?;
     assert_eq!(rt; copy.labels.len(), 3);
     assert_eq!(rt; copy.marks.newest_rows(), [1].as_slice());

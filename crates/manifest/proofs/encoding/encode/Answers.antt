@@ -1,4 +1,4 @@
-use Rattle.std.proofs.Common.{sym, ap, ◌∙◌, arith, length}
+use Rattle.std.proofs.Common.{sym}
 use Rattle.manifest.proofs.Words.{labels_short}
 use Rattle.manifest.proofs.encoding.encode.Goals as goal
 
