@@ -1,24 +1,24 @@
 -- A body that is read is the spelling of what was read, and a spelling is read again.
-use Rattle.std.proofs.Common.{◌≡◌, ℕ, suc, ◌+◌, ◌-◌, ◌*◌, ◌^◌, ◌<◌, ◌≤◌, true, cond, List, [], ◌∷◌, ◌++◌, length, replicate, map, take, drop, Result, Ok, Err, refl, sym, ap, subst, ◌∙◌, append_assoc, arith, All, length-append}
+use Rattle.std.proofs.Common.{◌≡◌, ℕ, ◌+◌, ◌-◌, ◌*◌, ◌^◌, ◌<◌, ◌≤◌, true, cond, List, [], ◌∷◌, ◌++◌, length, replicate, take, drop, Result, Ok, Err, refl, sym, ap, subst, ◌∙◌, append_assoc, arith, All, length-append}
 use Rattle.std.specs.List.{flat_map, AllByRecursion}
 use Rattle.std.proofs.lemmas.Bool.Decides.{nat_tests}
-use Rattle.std.proofs.Math.Nat.{mul-le-mul_right, suc-mul}
-use Rattle.std.proofs.lemmas.List.{length-map, length-replicate, drop_at, take_at, take-append-drop, length-drop, length_push}
+use Rattle.std.proofs.Math.Nat.{mul-le-mul_right}
+use Rattle.std.proofs.lemmas.List.{length-replicate, take_at, take-append-drop, length-drop, length_push}
 use Rattle.std.proofs.lemmas.List.Elements.{All-from_recursion}
-use Rattle.std.proofs.lemmas.List.Concat.{flat_map-cons}
 use Rattle.byteorder.specs.Endian.{little_bytes}
 use Rattle.disk_model.specs.declared.form_kind.FormKind.{FormKind}
 use Rattle.disk_model.specs.declared.form_kind.FormKind.TheVariants.{BadNumber, BadParts, BadCount, BadMark}
 use Rattle.manifest.specs.declared.types.Broken.{Broken}
 use Rattle.manifest.specs.declared.types.Head.{Head}
 use Rattle.manifest.specs.declared.types.PartEntry.{PartEntry}
-use Rattle.graph_words.specs.Text.{is_label_word}
 use Rattle.manifest.specs.declared.types.Manifest.{Manifest}
 use Rattle.manifest.specs.declared.types.ManifestFault.{ManifestFault}
 use Rattle.manifest.specs.Rules.{at_most, is_label_count, is_part_count, is_end, widths, count_limits, is_reached}
-use Rattle.manifest.specs.Reading.{◌>>=◌, field_at, head_at, labels_at, parts_at, cells_at, front_at, table_at, manifest_of, body_at, counted, reading}
-use Rattle.manifest.specs.Spelling.{Fits, Spells, HeadFits, LabelsFit, CellsFit, PartsFit, head_of, newest_in, head_bytes, label_bytes, parts_bytes, spelling}
+use Rattle.manifest.specs.Reading.{◌>>=◌, field_at, head_at, labels_at, parts_at, cells_at, front_at, table_at, manifest_of, body_at}
+use Rattle.manifest.specs.Spelling.{Spells, head_of, newest_in, head_bytes, label_bytes, parts_bytes, spelling}
+use Rattle.manifest.proofs.Kept.{Kept, HeadFits, LabelsFit, CellsFit, PartsFit}
 use Rattle.manifest.proofs.FieldLaws.{IsBytes, Takes, Takes-then, ReadsField, wide2, step_ok, ok_is, test_ok, field_takes, field_again, head_takes, head_again}
+use Rattle.manifest.proofs.Tables.{length-limits}
 use Rattle.manifest.proofs.ListLaws.{ReadsLabels, ReadsCells, labels_take, labels_again, parts_take, parts_again, cells_take, cells_again, parts_paired}
 
 abbrev pub front_bytes : Head × List (List ℕ) → List ℕ
@@ -102,7 +102,7 @@ assemble : (bytes : List ℕ) (x : Manifest × List ℕ) (s : BodySteps bytes x)
     → Takes s.front.1 (table_bytes s.parts.0) s.parts.1 × TableFits s.front.0.0 s.parts.0
     → ReadsCells s.parts.1 (count_limits (widths 0 s.parts.0.0)) [] s.counts.0 s.counts.1
     → ReadsCells s.counts.1 (replicate (length s.parts.0.0 * length s.parts.0.0) s.front.0.0.round) [] s.joined.0 s.joined.1
-    → Takes bytes (spelling x.0) x.1 × Fits x.0
+    → Takes bytes (spelling x.0) x.1 × Kept x.0
 assemble bytes x s f p c j =
     let t5 : Takes s.parts.1 (flat_map (little_bytes 8) s.counts.0) s.counts.1 = subst (λ (m : List ℕ). Takes s.parts.1 (flat_map (little_bytes 8) m) s.counts.1) (sym c.is) c.takes in
     let t6 : Takes s.counts.1 (flat_map (little_bytes 8) s.joined.0) s.joined.1 = subst (λ (m : List ℕ). Takes s.counts.1 (flat_map (little_bytes 8) m) s.joined.1) (sym j.is) j.takes in
@@ -110,7 +110,7 @@ assemble bytes x s f p c j =
     let q2 = Takes-then bytes (front_bytes s.front.0 ++ table_bytes s.parts.0) s.parts.1 (flat_map (little_bytes 8) s.counts.0) s.counts.1 q1 t5 in
     let q3 = Takes-then bytes (front_bytes s.front.0 ++ table_bytes s.parts.0 ++ flat_map (little_bytes 8) s.counts.0) s.counts.1 (flat_map (little_bytes 8) s.joined.0) s.joined.1 q2 t6 in
     let text : front_bytes s.front.0 ++ table_bytes s.parts.0 ++ flat_map (little_bytes 8) s.counts.0 ++ flat_map (little_bytes 8) s.joined.0 ≡ spelling (manifest_of s.front.0.0 s.front.0.1 s.parts.0 s.counts.0 s.joined.0) = simp append_assoc in
-    subst (λ (y : Manifest × List ℕ). Takes bytes (spelling y.0) y.1 × Fits y.0) s.made (
+    subst (λ (y : Manifest × List ℕ). Takes bytes (spelling y.0) y.1 × Kept y.0) s.made (
       subst (λ (w : List ℕ). Takes bytes w s.joined.1) text q3,
       record {
         head = f.1.head;
@@ -126,7 +126,7 @@ assemble bytes x s f p c j =
       },
     )
 
-pub body_takes : (bytes : List ℕ) (x : Manifest × List ℕ) → IsBytes bytes → body_at bytes ≡ Ok x → Takes bytes (spelling x.0) x.1 × Fits x.0
+pub body_takes : (bytes : List ℕ) (x : Manifest × List ℕ) → IsBytes bytes → body_at bytes ≡ Ok x → Takes bytes (spelling x.0) x.1 × Kept x.0
 body_takes bytes x fits e =
     let s : BodySteps bytes x = body_steps bytes x e in
     let f = front_takes bytes s.front fits s.front_is in
@@ -154,17 +154,19 @@ table_again h parts rest head fits =
     ap (table_at h) regrouped ∙ rw (field_again 2 (is_part_count h.vertices) BadParts (length parts.0) r4 k fits.part_count, parts_again h parts.0 parts.1 0 [] [] rest v head.rounds fits.parts) refl
 
 -- what its parts read makes the manifest again
-remade : (m : Manifest) → Fits m → manifest_of (head_of m) m.labels (m.parts, newest_in m) m.map.1 m.marks.1 ≡ m
+remade : (m : Manifest) → Kept m → manifest_of (head_of m) m.labels (m.parts, newest_in m) m.map.1 m.marks.1 ≡ m
 remade m fits = ap (λ (k : ℕ × ℕ). sized m k.0 k.1) (both_are (sym fits.map_size) (sym fits.marks_size))
   where
     sized : Manifest → ℕ → ℕ → Manifest
     sized m k l = record { generation = m.generation; round = m.round; vertices = m.vertices; grammar_len = m.grammar_len; edges_len = m.edges_len; labels = m.labels; parts = m.parts; map = (k, m.map.1); marks = (l, m.marks.1, m.marks.2) }
+
     both : ℕ → ℕ → ℕ × ℕ
     both a b = (a, b)
+
     both_are : {a b c d : ℕ} → a ≡ b → c ≡ d → both a c ≡ both b d
     both_are p q = cc
 
-pub body_again : (m : Manifest) (rest : List ℕ) → Fits m → body_at (spelling m ++ rest) ≡ Ok (m, rest)
+pub body_again : (m : Manifest) (rest : List ℕ) → Kept m → body_at (spelling m ++ rest) ≡ Ok (m, rest)
 unfolding body_at
 body_again m rest fits =
     let h = head_of m in
@@ -201,20 +203,6 @@ widths_within top low (p ∷ parts) fits = (omega (arith, fits.0), widths_within
 at_most_weaker : (top : ℕ) (ws : List ℕ) → top ≤ 16777216 → AllByRecursion (λ b. b ≤ top) ws → AllByRecursion (λ b. b ≤ 16777216) ws
 at_most_weaker top [] le h = tt
 at_most_weaker top (w ∷ ws) le h = (omega (arith, h.0), at_most_weaker top ws le h.1)
-
-length-widths : (low : ℕ) (parts : List PartEntry) → length (widths low parts) ≡ length parts
-length-widths low [] = refl
-length-widths low (p ∷ parts) = ap suc (length-widths p.hi parts)
-
-length-rows : (row : ℕ → List ℕ) (k : ℕ) (ws : List ℕ) → ((a : ℕ) → length (row a) ≡ k) → length (flat_map row ws) ≡ length ws * k
-length-rows row k [] each = omega arith
-length-rows row k (w ∷ ws) each = ap length (flat_map-cons row w ws) ∙ length-append (row w) (flat_map row ws) ∙ omega (arith, each w, length-rows row k ws each, suc-mul (length ws) k)
-
-length-limits : (parts : List PartEntry) → length (count_limits (widths 0 parts)) ≡ length parts * length parts
-length-limits parts =
-    let ws = widths 0 parts in
-    let same : length ws ≡ length parts = length-widths 0 parts in
-    length-rows (λ a. map (λ b. a * b * 63000) ws) (length ws) ws (λ a. length-map ws (λ b. a * b * 63000)) ∙ rw same refl
 
 -- what was read in front of the counts, and what the code has to know of it
 pub record TableKnown (p : List PartEntry × List ℕ) : Type 0 where
@@ -268,27 +256,20 @@ left_of bytes x t = ap length t ∙ length-append (spelling x.0) x.1
 pub rest_is_left : (bytes : List ℕ) (x : Manifest × List ℕ) → IsBytes bytes → body_at bytes ≡ Ok x → length x.1 ≤ length bytes
 rest_is_left bytes x fits e = omega (arith, left_of bytes x (body_takes bytes x fits e).0.parts)
 
-pub ok_found : (bytes : List ℕ) (x : Manifest × List ℕ) → IsBytes bytes → body_at bytes ≡ Ok x → Fits x.0 × Spells bytes x.0 (length bytes - length x.1)
+pub ok_found : (bytes : List ℕ) (x : Manifest × List ℕ) → IsBytes bytes → body_at bytes ≡ Ok x → Kept x.0 × Spells bytes x.0 (length bytes - length x.1)
 ok_found bytes x fits e =
     let t = body_takes bytes x fits e in
     let len : length bytes ≡ length (spelling x.0) + length x.1 = left_of bytes x t.0.parts in
     (t.1, (omega arith, ap (take (length bytes - length x.1)) t.0.parts ∙ take_at (spelling x.0) x.1 (length bytes - length x.1) (omega arith)))
 
-pub again_at : (bytes : List ℕ) (m : Manifest) (n : ℕ) → Fits m → Spells bytes m n → body_at bytes ≡ Ok (m, drop n bytes)
+pub again_at : (bytes : List ℕ) (m : Manifest) (n : ℕ) → Kept m → Spells bytes m n → body_at bytes ≡ Ok (m, drop n bytes)
 again_at bytes m n fits spells =
     ap body_at (sym (take-append-drop n bytes) ∙ ap (λ (t : List ℕ). t ++ drop n bytes) spells.1) ∙ body_again m (drop n bytes) fits
 
-pub ok_only : (bytes : List ℕ) (x : Manifest × List ℕ) (m : Manifest) (n : ℕ) → body_at bytes ≡ Ok x → Fits m → Spells bytes m n → (x.0 ≡ m) × (length bytes - length x.1 ≡ n)
+pub ok_only : (bytes : List ℕ) (x : Manifest × List ℕ) (m : Manifest) (n : ℕ) → body_at bytes ≡ Ok x → Kept m → Spells bytes m n → (x.0 ≡ m) × (length bytes - length x.1 ≡ n)
 ok_only bytes x m n e fits spells =
     let same : x ≡ (m, drop n bytes) = ok_is x (m, drop n bytes) (sym e ∙ again_at bytes m n fits spells) in
     (ap (λ (y : Manifest × List ℕ). y.0) same, ap (λ (y : Manifest × List ℕ). length bytes - length y.1) same ∙ omega (arith, length-drop n bytes, spells.0))
 
-pub err_only : (bytes : List ℕ) (d : Broken) (m : Manifest) (n : ℕ) → body_at bytes ≡ Err d → Fits m → Spells bytes m n → ⊥
+pub err_only : (bytes : List ℕ) (d : Broken) (m : Manifest) (n : ℕ) → body_at bytes ≡ Err d → Kept m → Spells bytes m n → ⊥
 err_only bytes d m n e fits spells = let h = again_at bytes m n fits spells in absurd cc
-
-short_from_label : (name : List ℕ) → is_label_word name ≡ true → length name ≤ 64
-short_from_label name e = grind (arith, nat_tests)
-
-pub labels_short : (before labels : List (List ℕ)) → LabelsFit before labels → AllByRecursion (λ name. length name ≤ 64) labels
-labels_short before [] fits = tt
-labels_short before (l ∷ labels) fits = (short_from_label l fits.0, labels_short (before ++ l ∷ []) labels fits.2)

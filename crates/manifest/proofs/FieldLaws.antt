@@ -13,7 +13,8 @@ use Rattle.manifest.specs.declared.types.Head.{Head}
 use Rattle.manifest.specs.declared.types.PartEntry.{PartEntry}
 use Rattle.manifest.specs.Rules.{is_magic, is_generation, is_round, is_vertices, is_grammar_len, is_edges_len, is_end, is_file, is_newest, first_magic}
 use Rattle.manifest.specs.Reading.{◌>>=◌, number_at, field_at, broken, head_at, part_at}
-use Rattle.manifest.specs.Spelling.{head_bytes, part_bytes, HeadFits}
+use Rattle.manifest.specs.Spelling.{head_bytes, part_bytes}
+use Rattle.manifest.proofs.Kept.{HeadFits}
 
 abbrev pub IsBytes : List ℕ → Type 0
 IsBytes bytes = (i : ℕ) → get_or bytes i 0 < 256

@@ -1,6 +1,9 @@
+pub mod Kept
+pub mod Tables
 pub mod Loops
 pub mod FieldLaws
 pub mod ListLaws
 pub mod BodyLaws
+pub mod Words
 pub mod Facts
 pub mod PrefixLaws

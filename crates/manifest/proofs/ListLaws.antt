@@ -13,7 +13,8 @@ use Rattle.graph_words.specs.Text.{is_label_word}
 use Rattle.label_table.specs.Names.{has_name}
 use Rattle.manifest.specs.Rules.{at_most, is_end}
 use Rattle.manifest.specs.Reading.{◌>>=◌, Read, field_at, broken, label_at, labels_at, part_at, parts_at, cells_at}
-use Rattle.manifest.specs.Spelling.{label_bytes, part_bytes, parts_bytes, LabelsFit, PartsFit, CellsFit}
+use Rattle.manifest.specs.Spelling.{label_bytes, part_bytes, parts_bytes}
+use Rattle.manifest.proofs.Kept.{LabelsFit, PartsFit, CellsFit}
 use Rattle.manifest.proofs.FieldLaws.{IsBytes, IsBytes-drop, Takes, Takes-then, wide8, step_ok, ok_is, guard_ok, field_takes, field_again, part_takes, part_again}
 
 -- ---- labels

@@ -1,5 +1,5 @@
 -- What bytes that don't end within a field say, is said whatever stands behind them.
-use Rattle.std.proofs.Common.{◌≡◌, ◌⊎◌, ℕ, zero, suc, ◌+◌, ◌-◌, ◌*◌, ◌<◌, ◌≤◌, Bool, true, false, not, List, [], ◌∷◌, ◌++◌, length, take, drop, replicate, Result, Ok, Err, refl, sym, ap, subst, ◌∙◌, arith, inl, inr}
+use Rattle.std.proofs.Common.{◌≡◌, ◌⊎◌, ℕ, zero, suc, ◌+◌, ◌-◌, ◌<◌, ◌≤◌, Bool, true, false, not, List, [], ◌∷◌, ◌++◌, length, take, drop, Result, Ok, Err, refl, sym, ap, subst, ◌∙◌, arith, inl, inr}
 use Rattle.std.specs.Prelude.{if◌then◌else◌, nat_lt}
 use Rattle.std.proofs.lemmas.Bool.{cases_lt}
 use Rattle.std.proofs.lemmas.Bool.Decides.{nat_tests}
@@ -15,7 +15,7 @@ use Rattle.manifest.specs.declared.types.Head.{Head}
 use Rattle.manifest.specs.declared.types.PartEntry.{PartEntry}
 use Rattle.manifest.specs.declared.types.Manifest.{Manifest}
 use Rattle.manifest.specs.declared.types.ManifestFault.{ManifestFault}
-use Rattle.manifest.specs.Reading.{◌>>=◌, Read, broken, number_at, field_at, head_at, label_at, labels_at, part_at, parts_at, cells_at, front_at, table_at, body_at, counted, reading}
+use Rattle.manifest.specs.Reading.{◌>>=◌, Read, broken, number_at, field_at, head_at, label_at, labels_at, part_at, parts_at, cells_at, front_at, table_at, body_at, counted}
 use Rattle.manifest.specs.Rules.{is_magic, is_generation}
 use Rattle.manifest.proofs.FieldLaws.{step_ok, test_ok, ok_is}
 use Rattle.manifest.specs.Prefix.{IsCut, Settles}
@@ -98,7 +98,7 @@ label-long before n bytes long = rw (at_least n bytes long) refl
 
 label_rules_go : (word known : Bool) (before : List (List ℕ)) (field name rest more : List ℕ)
     → Goes more (if not word then Err (broken field BadLabel) else if known then Err (broken field RepeatedLabel) else Ok (before ++ name ∷ [], rest))
-      (if not word then Err (broken (field ++ more) BadLabel) else if known then Err (broken (field ++ more) RepeatedLabel) else Ok (before ++ name ∷ [], rest ++ more))
+    (if not word then Err (broken (field ++ more) BadLabel) else if known then Err (broken (field ++ more) RepeatedLabel) else Ok (before ++ name ∷ [], rest ++ more))
 label_rules_go true known before field name rest more = rule_goes_else known (before ++ name ∷ []) rest more field (field ++ more) RepeatedLabel refl
 label_rules_go false known before field name rest more = rule_goes false (before ++ name ∷ []) rest more field (field ++ more) BadLabel refl
 

@@ -1,5 +1,5 @@
 -- Reading a manifest's body field by field, from left to right, up to the first field that breaks its rule.
-use Rattle.std.specs.Prelude.{◌≡◌, ◌≤◌, ℕ, zero, suc, ◌+◌, ◌-◌, ◌*◌, Bool, not, nat_lt, if◌then◌else◌, List, [], ◌∷◌, ◌++◌, length, drop, take, replicate, Option, Some, None, Result, Ok, Err}
+use Rattle.std.specs.Prelude.{◌≡◌, ℕ, zero, suc, ◌+◌, ◌-◌, ◌*◌, Bool, not, nat_lt, if◌then◌else◌, List, [], ◌∷◌, ◌++◌, length, drop, take, replicate, Option, Some, None, Result, Ok, Err}
 use Rattle.byteorder.specs.Endian.{little_number}
 use Rattle.disk_model.specs.declared.form_kind.FormKind.{FormKind}
 use Rattle.disk_model.specs.declared.form_kind.FormKind.TheVariants.{BadMagic, Short, BadNumber, BadLabel, RepeatedLabel, BadParts, BadFile, BadCount, BadMark}
@@ -103,8 +103,16 @@ table_at h bytes = do
 -- a manifest of what its parts read
 abbrev pub manifest_of : Head → List (List ℕ) → List PartEntry × List ℕ → List ℕ → List ℕ → Manifest
 manifest_of h labels parts counts joined = record {
-  generation = h.generation; round = h.round; vertices = h.vertices; grammar_len = h.grammar_len; edges_len = h.edges_len;
-  labels = labels; parts = parts.0; map = (length parts.0, counts); marks = (length parts.0, joined, parts.1) }
+  generation = h.generation;
+  round = h.round;
+  vertices = h.vertices;
+  grammar_len = h.grammar_len;
+  edges_len = h.edges_len;
+  labels = labels;
+  parts = parts.0;
+  map = (length parts.0, counts);
+  marks = (length parts.0, joined, parts.1);
+}
 
 -- the whole body. The last rule is on the round, whose field begins behind 5 bytes.
 unfoldable pub body_at : List ℕ → Read Manifest

@@ -1,13 +1,14 @@
 -- Which manifests keep the rules, and their one spelling.
-use Rattle.std.specs.Prelude.{◌≡◌, ℕ, ◌*◌, ◌^◌, ◌<◌, ◌≤◌, not, take, List, [], ◌∷◌, ◌++◌, length, replicate, IsTrue}
+use Rattle.std.specs.Prelude.{◌≡◌, ◌≢◌, ℕ, ◌+◌, ◌*◌, ◌^◌, ◌<◌, ◌≤◌, take, List, [], ◌∷◌, ◌++◌, length, sum, slice_index_or, All, AllPairs}
 use Rattle.std.specs.List.{flat_map}
 use Rattle.byteorder.specs.Endian.{little_bytes}
-use Rattle.graph_words.specs.Text.{is_label_word}
-use Rattle.label_table.specs.Names.{has_name}
+use Rattle.label_table.specs.Names.{IsTable}
+use Rattle.dest_map.specs.Table.{counts_of}
+use Rattle.pair_sched.specs.Marks.{joined_of, newest_of}
 use Rattle.manifest.specs.declared.types.PartEntry.{PartEntry}
 use Rattle.manifest.specs.declared.types.Head.{Head}
 use Rattle.manifest.specs.declared.types.Manifest.{Manifest}
-use Rattle.manifest.specs.Rules.{at_most, is_generation, is_round, is_vertices, is_grammar_len, is_edges_len, is_label_count, is_part_count, is_end, is_file, is_newest, widths, count_limits, is_reached, first_magic}
+use Rattle.manifest.specs.Rules.{widths, first_magic}
 
 -- the numbers in front
 abbrev pub head_of : Manifest → Head
@@ -49,41 +50,42 @@ Spells bytes m n = (n ≤ length bytes) × (take n bytes ≡ spelling m)
 
 -- ---- the rules
 
-pub record HeadFits (h : Head) : Type 0 where
-  pub generation : IsTrue (is_generation h.generation)
-  pub round : IsTrue (is_round h.round)
-  pub vertices : IsTrue (is_vertices h.vertices)
-  pub grammar_len : IsTrue (is_grammar_len h.grammar_len)
-  pub edges_len : IsTrue (is_edges_len h.edges_len)
-  pub rounds : h.round < 2 ^ 64
+-- from low on the partitions cover the vertices below top, one behind the other, and none is empty
+abbrev pub Cover : ℕ → ℕ → List PartEntry → Type 0
+Cover top low [] = low ≡ top
+Cover top low (p ∷ parts) = (low < p.hi) × Cover top p.hi parts
 
--- each is a label, and none stands among those before
-abbrev pub LabelsFit : List (List ℕ) → List (List ℕ) → Type 0
-LabelsFit before [] = Unit {0}
-LabelsFit before (l ∷ labels) = IsTrue (is_label_word l) × IsTrue (not (has_name before l)) × LabelsFit (before ++ l ∷ []) labels
+-- how many vertices partition i has
+abbrev pub width : Manifest → ℕ → ℕ
+width m i = slice_index_or (widths 0 m.parts) i 0
 
--- the partitions behind those before, each with its newest birth
-abbrev pub PartsFit : Head → ℕ → List PartEntry → List PartEntry → List ℕ → Type 0
-PartsFit h low before [] [] = Unit {0}
-PartsFit h low before (p ∷ parts) (n ∷ newest) =
-    IsTrue (is_end h.vertices (length parts) low p.hi) × IsTrue (is_file before p.file) × IsTrue (is_newest h.round n) × PartsFit h p.hi (before ++ p ∷ []) parts newest
-PartsFit h low before _ _ = ⊥
+-- a map of k partitions: k rows of k counts
+pub record IsMap (k : ℕ) (map : ℕ × List ℕ) : Type 0 where
+  pub size : map.0 ≡ k
+  pub rows : length map.1 ≡ k * k
 
--- as many numbers as limits, each within its own
-abbrev pub CellsFit : List ℕ → List ℕ → Type 0
-CellsFit [] [] = Unit {0}
-CellsFit (limit ∷ limits) (n ∷ cells) = IsTrue (at_most limit n) × (n < 2 ^ 64) × CellsFit limits cells
-CellsFit _ _ = ⊥
+-- marks of k partitions: k rows of k joined marks, and k newest births
+pub record AreMarks (k : ℕ) (marks : ℕ × List ℕ × List ℕ) : Type 0 where
+  pub size : marks.0 ≡ k
+  pub rows : length marks.1 ≡ k * k
+  pub births : length marks.2 ≡ k
 
 -- a manifest keeps the rules
 pub record Fits (m : Manifest) : Type 0 where
-  pub head : HeadFits (head_of m)
-  pub label_count : IsTrue (is_label_count (length m.labels))
-  pub labels : LabelsFit [] m.labels
-  pub part_count : IsTrue (is_part_count m.vertices (length m.parts))
-  pub parts : PartsFit (head_of m) 0 [] m.parts (newest_in m)
-  pub map_size : m.map.0 ≡ length m.parts
-  pub marks_size : m.marks.0 ≡ length m.parts
-  pub counts : CellsFit (count_limits (widths 0 m.parts)) m.map.1
-  pub joined : CellsFit (replicate (length m.parts * length m.parts) m.round) m.marks.1
-  pub reached : IsTrue (is_reached m.round m.map.1)
+  pub generation : m.generation ≤ 2
+  pub round : 1 ≤ m.round
+  pub rounds : m.round < 2 ^ 64
+  pub vertices : m.vertices ≤ 16777216
+  pub grammar_len : m.grammar_len ≤ 16777216
+  pub edges_len : m.edges_len ≤ 1099511627776
+  pub labels : IsTable m.labels
+  pub few : length m.parts ≤ 256
+  pub cover : Cover m.vertices 0 m.parts
+  pub files : All (λ p. (4 ≤ p.file) × (p.file ≤ 1023)) m.parts
+  pub files_once : AllPairs (λ p q. p.file ≢ q.file) m.parts
+  pub map : IsMap (length m.parts) m.map
+  pub counts : (i j : ℕ) → i < length m.parts → j < length m.parts → counts_of m.map i j ≤ width m i * width m j * 63000
+  pub reached : m.round ≤ 1 + sum m.map.1
+  pub marks : AreMarks (length m.parts) m.marks
+  pub newest : (i : ℕ) → i < length m.parts → newest_of m.marks i < m.round
+  pub joined : (i j : ℕ) → i < length m.parts → j < length m.parts → joined_of m.marks i j ≤ m.round

@@ -43,11 +43,6 @@ pub fn reading_is_spelling()
     ensures { (bytes : List ℕ) (x : AManifest × ℕ) → All (λ b. b < 256) bytes → reading bytes ≡ Ok x → Fits x.0 × Spells bytes x.0 x.1 }
 {}
 
-/// Bytes behind a body are ignored.
-pub fn begins_alike()
-    ensures { (bytes behind : List ℕ) (x : AManifest × ℕ) → All (λ b. b < 256) bytes → reading bytes ≡ Ok x → reading (bytes ++ behind) ≡ Ok x }
-{}
-
 /// A file that has a body behind its first byte has more than one byte.
 pub fn has_bytes()
     ensures { (file : List ℕ) (m : AManifest) → manifest_in (drop 1 file) ≡ Some m → 1 < length file }

@@ -14,8 +14,7 @@ mod types;
 pub use decoding::decode;
 pub use encoding::encode;
 pub use laws::{
-    begins_alike, encode_then_decode, has_bytes, magic_is_gsm1, reading_is_spelling,
-    spelling_is_read,
+    encode_then_decode, has_bytes, magic_is_gsm1, reading_is_spelling, spelling_is_read,
 };
 pub use prefix_law::more_bytes_change_nothing;
 pub use types::{Manifest, ManifestError, ManifestFault, PartEntry, PartList};

@@ -1,4 +1,4 @@
-use Rattle.std.proofs.Common.{arith, ◌≡◌, ◌++◌, ◌∷◌, [], ap, sym, ◌∙◌, subst, length, not, List, ℕ, false, Some}
+use Rattle.std.proofs.Common.{arith, ◌≡◌, ap, sym, ◌∙◌, subst, length, not, List, ℕ, false}
 use Rattle.std.specs.Prelude.{slice_get, All}
 use Rattle.graph_words.specs.Text.{with_name, same_name}
 use Rattle.label_table.specs.Names.{IsTable}

@@ -10,9 +10,9 @@ label_of-requires c = omega (arith, c.loop.invariant.1, c.loop-test.true, c.requ
 
 pub loop-preserved : goal.loop-preserved
 loop-preserved c = (
-    labels_go_on c.args.count c.loop.counter c.loop.labels c.loop.rest.now c.label_of.new.labels c.in_ok-rest.rest.now (labels_at c.args.count [] c.args.bytes.now) c.loop-test.true c.in_ok-rest.ensures c.loop.invariant.0,
-    omega (arith, label_adds c.loop.labels c.loop.rest.now (c.label_of.new.labels, c.in_ok-rest.rest.now) c.in_ok-rest.ensures, c.loop.invariant.1)
-  )
+  labels_go_on c.args.count c.loop.counter c.loop.labels c.loop.rest.now c.label_of.new.labels c.in_ok-rest.rest.now (labels_at c.args.count [] c.args.bytes.now) c.loop-test.true c.in_ok-rest.ensures c.loop.invariant.0,
+  omega (arith, label_adds c.loop.labels c.loop.rest.now (c.label_of.new.labels, c.in_ok-rest.rest.now) c.in_ok-rest.ensures, c.loop.invariant.1),
+)
 
 pub returns : goal.returns
 returns c = labels_done c.args.count c.loop.counter c.loop.labels c.loop.rest.now (labels_at c.args.count [] c.args.bytes.now) c.loop-test.false c.loop.invariant.0
