@@ -72,7 +72,8 @@ fn is_cut(said: &Result<Manifest, ManifestFault>) -> bool
 // What the body of a slot says, whose file has so many bytes behind its gate.
 //
 // The first bytes are read alone, and four times as many each time that they end within a field.
-// So what stands behind a manifest takes no memory, however long it is.
+// So no more is read than the first piece or four times what the manifest takes, however many bytes
+// stand behind it.
 fn body_of<D: Disk>(
     alloc: Global,
     disk: &mut D,

@@ -58,9 +58,11 @@ pub enum OpenFault {
     /// The bytes of a file break a rule: that of an open slot's format, or, at the generation of
     /// file 1, that two open slots have different ones.
     BadStore {
+        /// The number of the file, 0 or 1.
         file: u32,
         /// The place of the first byte of the field that breaks it, in bytes from 0.
         place: u64,
+        /// The rule.
         kind: FormKind,
     },
     /// There was no memory for the bytes or for what they say.
