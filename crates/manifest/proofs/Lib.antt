@@ -7,3 +7,4 @@ pub mod BodyLaws
 pub mod Words
 pub mod Facts
 pub mod PrefixLaws
+pub mod LengthLaws

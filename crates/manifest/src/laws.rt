@@ -1,4 +1,4 @@
-ghost use Rattle.std.specs.Prelude.{◌≡◌, ◌<◌, ◌++◌, ℕ, List, All, Some, Ok, length, drop, codes};
+ghost use Rattle.std.specs.Prelude.{◌≡◌, ◌<◌, ◌≤◌, ◌++◌, ℕ, List, All, Some, Ok, length, drop, codes};
 ghost use Rattle.byteorder.specs.Endian.{little_bytes};
 ghost use Rattle.manifest.specs.declared.types.Manifest.{Manifest as AManifest};
 ghost use Rattle.manifest.specs.Rules.{first_magic};
@@ -46,4 +46,14 @@ pub fn reading_is_spelling()
 /// A file that has a body behind its first byte has more than one byte.
 pub fn has_bytes()
     ensures { (file : List ℕ) (m : AManifest) → manifest_in (drop 1 file) ≡ Some m → 1 < length file }
+{}
+
+/// No two manifests that keep the rules have one spelling.
+pub fn no_shared_spelling()
+    ensures { (m other : AManifest) → Fits m → Fits other → spelling m ≡ spelling other → m ≡ other }
+{}
+
+/// A spelling has at most 1,117,709 bytes.
+pub fn longest_spelling()
+    ensures { (m : AManifest) → Fits m → length (spelling m) ≤ 1117709 }
 {}

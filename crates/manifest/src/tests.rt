@@ -121,6 +121,28 @@ fn a_second_partition_breaks(rt: HostRuntime) {
     }
 }
 
+#[test]
+fn a_label_that_is_too_long_may_be_cut(rt: HostRuntime) {
+    let mut bytes = TWO;
+    bytes[33] = 1;
+    bytes[35] = 97;
+    assert!(rt; breaks(rt.alloc(), &bytes, 36, FormKind::BadLabel));
+    bytes[35] = 98;
+    assert!(rt; breaks(rt.alloc(), &bytes, 36, FormKind::Short));
+}
+
+#[test]
+fn without_vertices_there_are_no_partitions(rt: HostRuntime) -> Result<(), Fail> {
+    let mut bytes = TWO;
+    bytes[13] = 0;
+    assert!(rt; breaks(rt.alloc(), &bytes, 36, FormKind::BadParts));
+    bytes[35] = 0;
+    let (m, used) = decode(rt.alloc(), &bytes).ok().ok_or("a manifest")?;
+    assert_eq!(rt; used, 37);
+    assert!(rt; m.parts.as_slice().is_empty());
+    Ok(())
+}
+
 /// A number as bytes, the lowest first.
 fn put(out: &mut Vec<u8>, width: usize, number: u64) -> Result<(), AllocError> {
     let bytes = number.to_le_bytes();
