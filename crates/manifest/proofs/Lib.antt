@@ -1,0 +1,10 @@
+pub mod Kept
+pub mod Tables
+pub mod Loops
+pub mod FieldLaws
+pub mod ListLaws
+pub mod BodyLaws
+pub mod Words
+pub mod Facts
+pub mod PrefixLaws
+pub mod LengthLaws

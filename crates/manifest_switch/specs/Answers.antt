@@ -1,0 +1,55 @@
+-- What reading the slots answers.
+use Rattle.std.specs.Prelude.{◌≡◌, ℕ, ◌+◌, true, false, List, length, Option, Some, None, Result, Ok, Err}
+use Rattle.disk_model.specs.Disk.{Rose}
+use Rattle.disk_model.specs.declared.form_kind.FormKind.TheVariants.{Short}
+use Rattle.manifest.specs.declared.types.Manifest.{Manifest}
+use Rattle.manifest.specs.declared.types.ManifestFault.{ManifestFault}
+use Rattle.manifest_switch.specs.declared.slot.Slot.{Slot}
+use Rattle.manifest_switch.specs.declared.slot.Found.{Found}
+use Rattle.manifest_switch.specs.declared.slot.Found.TheVariants.{Blank, At}
+use Rattle.manifest.specs.Spelling.{Fits}
+use Rattle.manifest_switch.specs.declared.slot.OpenFault.{OpenFault}
+use Rattle.manifest_switch.specs.declared.slot.OpenFault.TheVariants.{DiskFault, BadStore, NoMemory}
+use Rattle.manifest_switch.specs.Slots.{is_open, bad_body}
+
+-- a manifest that is found keeps the rules of its format
+abbrev pub HoldsFit : Found → Type 0
+HoldsFit Blank = Unit {0}
+HoldsFit (At s m) = Fits m
+
+-- a disk fault comes only where the count rose
+abbrev pub HasOpenCause : {T : Type 0} → ℕ → ℕ → Result T OpenFault → Type 0
+HasOpenCause before now (Err DiskFault) = Rose before now
+HasOpenCause before now _ = Unit {0}
+
+-- what was asked for, unless disk or memory failed. No bytes are blamed.
+abbrev pub Gives : {T : Type 0} → Result T OpenFault → (T → Type 0) → Type 0
+Gives (Ok x) P = P x
+Gives (Err (BadStore file place kind)) P = ⊥
+Gives (Err DiskFault) P = Unit {0}
+Gives (Err NoMemory) P = Unit {0}
+
+-- the bytes end within a field
+abbrev pub IsCutShort : Result Manifest ManifestFault → Type 0
+IsCutShort (Ok m) = ⊥
+IsCutShort (Err f) = f.kind ≡ Short
+
+-- the slot isn't open, or it is and has so many bytes behind its gate
+abbrev pub AnswersOpen : List ℕ → Option ℕ → Type 0
+AnswersOpen file None = is_open file ≡ false
+AnswersOpen file (Some n) = (is_open file ≡ true) × (length file ≡ 1 + n)
+
+-- what a slot says, unless disk or memory failed
+abbrev pub AnswersSlot : Slot → Option (Result Manifest ManifestFault) → Result (Option Manifest) OpenFault → Type 0
+AnswersSlot s said (Ok None) = said ≡ None
+AnswersSlot s said (Ok (Some m)) = said ≡ Some (Ok m)
+AnswersSlot s said (Err (BadStore file place kind)) = (f : ManifestFault) × (said ≡ Some (Err f)) × (BadStore file place kind ≡ bad_body s f)
+AnswersSlot s said (Err DiskFault) = Unit {0}
+AnswersSlot s said (Err NoMemory) = Unit {0}
+
+-- what the slots hold, unless disk or memory failed
+abbrev pub AnswersCurrent : Result Found OpenFault → Result Found OpenFault → Type 0
+AnswersCurrent held (Ok found) = held ≡ Ok found
+AnswersCurrent held (Err (BadStore file place kind)) = held ≡ Err (BadStore file place kind)
+AnswersCurrent held (Err DiskFault) = Unit {0}
+AnswersCurrent held (Err NoMemory) = Unit {0}
