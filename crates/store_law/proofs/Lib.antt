@@ -1,0 +1,4 @@
+pub mod Exact
+pub mod Intervals
+pub mod Named
+pub mod Times

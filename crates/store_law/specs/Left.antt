@@ -1,0 +1,51 @@
+-- What stopped runs may leave, so that a run goes on from there.
+use Rattle.std.specs.Prelude.{◌≡◌, ℕ, ◌<◌, ◌⊎◌, List, length, take, Ok}
+use Rattle.graph_words.specs.declared.types.Born.{Born}
+use Rattle.closing_machine.specs.State.{IsDirtyBy}
+use Rattle.closing_machine.specs.Tells.{Tells}
+use Rattle.closing_machine.specs.Holds.{Holds}
+use Rattle.disk_model.specs.Disk.{Contents}
+use Rattle.dest_map.specs.Table.{counts_of}
+use Rattle.pair_sched.specs.Marks.{joined_of, newest_of}
+use Rattle.manifest.specs.declared.types.Manifest.{Manifest}
+use Rattle.manifest.specs.Spelling.{Fits}
+use Rattle.manifest_switch.specs.declared.slot.Slot.{Slot}
+use Rattle.manifest_switch.specs.declared.slot.Found.TheVariants.{At}
+use Rattle.manifest_switch.specs.Slots.{IsBlank, current_of}
+use Rattle.store_law.specs.Texts.{AreGood, Texts, graph, names_of, normal}
+use Rattle.store_law.specs.Listed.{AreListed, state_in}
+
+-- the first so many bytes of a file are the text
+pub record IsCopy (text file : List ℕ) (len : ℕ) : Type 0 where
+  pub bytes : take len file ≡ text
+  pub all : length text ≡ len
+
+-- The contents are a store of the texts: the slots say one manifest, which is current; it is a manifest of the texts,
+-- and its partitions and tables stand for a state that holds of them.
+pub record IsStore (t : Texts) (c : Contents) (m : Manifest) (parts : List (List Born)) : Type 0 where
+  -- both texts can be read, so the names and the graph are those that a run reads
+  pub good : AreGood t
+  -- a run finds this manifest, and each open slot could be read
+  pub slot : Slot
+  pub current : current_of c ≡ Ok (At slot m)
+  pub fits : Fits m
+  -- the copies are the texts, so that a run that goes on can compare them
+  pub grammar_copy : IsCopy t.grammar (c 2) m.grammar_len
+  pub edges_copy : IsCopy t.edges (c 3) m.edges_len
+  -- labels and vertices are those of the texts
+  pub labels : m.labels ≡ names_of t
+  pub vertices : m.vertices ≡ (graph t).vertices
+  -- the partition files can be read
+  pub listed : AreListed c m (normal t).fresh parts
+  -- no edge is listed that isn't reached or twice, the given edges are there, and what is marked joined is joined
+  pub holds : Holds (normal t) (graph t) (state_in m parts)
+  -- the tables are exact, so that no dirty pair is overlooked
+  pub tells : Tells (counts_of m.map) (joined_of m.marks) (newest_of m.marks) (state_in m parts)
+
+-- the manifest has no pair with work left
+abbrev pub IsDone : Manifest → Type 0
+IsDone m = (i j : ℕ) → i < length m.parts → j < length m.parts → IsDirtyBy (counts_of m.map) (joined_of m.marks) (newest_of m.marks) i j → ⊥
+
+-- the contents are blank, or a store of the texts
+abbrev pub IsLeft : Texts → Contents → Type 0
+IsLeft t c = IsBlank c ⊎ ((m : Manifest) × (parts : List (List Born)) × IsStore t c m parts)
