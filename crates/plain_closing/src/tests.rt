@@ -38,14 +38,6 @@ fn grammar_of(
     Ok(Grammar::from_rules(list))
 }
 
-fn graph_of(alloc: Global, edges: &[(u32, u16, u32)]) -> Result<EdgeList, AllocError> {
-    let mut graph = EdgeList::new(alloc);
-    for (src, label, dst) in edges {
-        graph.push(edge_of(*src, *label, *dst))?;
-    }
-    Ok(graph)
-}
-
 fn are(edges: &[Edge], expected: &[(u32, u16, u32)]) -> bool {
     edges.len() == expected.len()
         && edges
@@ -58,7 +50,9 @@ fn are(edges: &[Edge], expected: &[(u32, u16, u32)]) -> bool {
 #[test]
 fn a_cycle_of_two_becomes_complete(rt: HostRuntime) -> Result<(), Fail> {
     let alloc = rt.alloc();
-    let graph = graph_of(alloc, &[(0, 0, 1), (1, 0, 0)])?;
+    let mut graph = EdgeList::new(alloc);
+    graph.push(edge_of(0, 0, 1))?;
+    graph.push(edge_of(1, 0, 0))?;
     let grammar = grammar_of(&rt, alloc, &[(0, &[0, 0])])?;
     let edges = closure(alloc, 2, &graph, &grammar)?;
     assert!(rt;
@@ -74,7 +68,10 @@ fn a_cycle_of_two_becomes_complete(rt: HostRuntime) -> Result<(), Fail> {
 #[test]
 fn empty_rules_and_long_rules_are_closed_under(rt: HostRuntime) -> Result<(), Fail> {
     let alloc = rt.alloc();
-    let graph = graph_of(alloc, &[(0, 1, 0), (0, 2, 1), (1, 2, 0)])?;
+    let mut graph = EdgeList::new(alloc);
+    graph.push(edge_of(0, 1, 0))?;
+    graph.push(edge_of(0, 2, 1))?;
+    graph.push(edge_of(1, 2, 0))?;
     let grammar = grammar_of(&rt, alloc, &[(0, &[]), (0, &[1, 0, 2, 0])])?;
     let edges = closure(alloc, 2, &graph, &grammar)?;
     assert!(rt;
