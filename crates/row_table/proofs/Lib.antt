@@ -4,3 +4,4 @@ mod OrderLemmas
 mod MergeLemmas
 mod LoadedLemmas
 mod SearchLemmas
+mod BlockLemmas

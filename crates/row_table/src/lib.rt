@@ -1,6 +1,7 @@
 //! The edges of one or two loaded partitions, row after row: the joins of a round, and the edges that it adds.
 #![tactic(auto)]
 
+mod blocks;
 mod merging;
 mod row_starts;
 mod rows;

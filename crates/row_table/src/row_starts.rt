@@ -42,7 +42,7 @@ pub(crate) fn starts_of(
 }
 
 /// The edges from one place to before another.
-fn part(edges: &[Born], start: usize, end: usize) -> &[Born]
+pub(crate) fn part(edges: &[Born], start: usize, end: usize) -> &[Born]
     requires order { start ≤ end }
     requires within { end ≤ length edges.now }
     ensures { result.now ≡ slice_range edges.now start end }
