@@ -30,14 +30,14 @@ abbrev pub GivesLabels : List Block → List Block → List LabelId → List Bor
 GivesLabels before after labels run = (a : LabelId) (w : Vertex) → Gives after a w ↔ (Gives before a w ⊎ (Contains labels a × EndsAt run w))
 
 module _ (blocks : List Block) (k : Block) (a : LabelId) (w : Vertex) where
-  gives_push_to : Gives (blocks ++ k ∷ []) a w → Gives blocks a w ⊎ ((k.label ≡ a) × EndsAt k.seconds.now w)
+  pub gives_push_to : Gives (blocks ++ k ∷ []) a w → Gives blocks a w ⊎ ((k.label ≡ a) × EndsAt k.seconds.now w)
   gives_push_to g =
       either
       (λ (m : Contains blocks g.0). inl (g.0, m, g.2, g.3))
       (λ (e : k ≡ g.0). inr (subst (λ (b : Block). (b.label ≡ a) × EndsAt b.seconds.now w) (sym e) (g.2, g.3)))
       (Contains-push_cases blocks k g.0 g.1)
 
-  gives_push_back : Gives blocks a w ⊎ ((k.label ≡ a) × EndsAt k.seconds.now w) → Gives (blocks ++ k ∷ []) a w
+  pub gives_push_back : Gives blocks a w ⊎ ((k.label ≡ a) × EndsAt k.seconds.now w) → Gives (blocks ++ k ∷ []) a w
   gives_push_back h =
       either
       (λ (g : Gives blocks a w). (g.0, Contains-append_left blocks (k ∷ []) g.0 g.1, g.2, g.3))

@@ -5,3 +5,5 @@ mod MergeLemmas
 mod LoadedLemmas
 mod SearchLemmas
 mod BlockLemmas
+mod SieveLemmas
+mod JoinLemmas

@@ -67,9 +67,24 @@ GivesJoins n edges since u blocks = (a : LabelId) (w : Vertex) → Gives blocks 
 
 -- ---- the ends of a label
 
+abbrev pub vertex : ℕ → Vertex
+vertex w = record { 0 = w }
+
+-- an edge of the list ends at w
+abbrev pub EndsHere : List Born → ℕ → Type 0
+EndsHere run w = (c : Born) × Contains run c × (c.edge.dst.0 ≡ w)
+
 -- an edge of the row has the label and ends at w
 abbrev pub HasEnd : List Born → LabelId → ℕ → Type 0
 HasEnd row a w = (c : Born) × Contains row c × (c.edge.label ≡ a) × (c.edge.dst.0 ≡ w)
+
+-- the blocks have the label with an edge that ends at w
+abbrev pub GivesEnd : List Block → LabelId → ℕ → Type 0
+GivesEnd blocks a w = Gives blocks a (vertex w)
+
+-- one block has the label and an edge that ends at w
+abbrev pub BlockGives : Block → LabelId → ℕ → Type 0
+BlockGives k a w = (k.label ≡ a) × EndsHere k.seconds.now w
 
 -- the set has these ends too, and no other
 pub record MarksEnds (given : ℕ → Type 0) (before after : List Bool) : Type 0 where
@@ -85,8 +100,30 @@ pub record Sifts (given : ℕ → Type 0) (before after : List Bool) (found_befo
   pub only : (w : ℕ) → Contains found_after w → Contains found_before w ⊎ ((HasVertex before w → ⊥) × given w)
   pub once : All (HasVertex before) found_before → IsDistinct eqb found_before → All (HasVertex after) found_after × IsDistinct eqb found_after
 
--- what the blocks give for a label, less the edges, in order
-pub record JoinsTo_label (edges : List Born) (u : Vertex) (blocks : List Block) (a : LabelId) (new : List Edge) : Type 0 where
-  pub each : All (λ e. (e.src ≡ u) × (e.label ≡ a) × Gives blocks a e.dst × (HasEdge edges e → ⊥)) new
-  pub all : (w : Vertex) → Gives blocks a w → HasEdge edges (edge u a w) ⊎ Contains new (edge u a w)
+-- what the blocks give for a label, less the row, in order
+pub record LabelJoins (row : List Born) (u : Vertex) (blocks : List Block) (a : LabelId) (new : List Edge) : Type 0 where
+  pub each : All (λ e. (e.src ≡ u) × (e.label ≡ a) × Gives blocks a e.dst × (HasEdge row e → ⊥)) new
+  pub all : (w : Vertex) → Gives blocks a w → HasEdge row (edge u a w) ⊎ Contains new (edge u a w)
   pub ascending : IsAscending new
+
+pub record AppendsLabel (row : List Born) (u : Vertex) (blocks : List Block) (a : LabelId) (before after : List Edge) : Type 0 where
+  pub new : List Edge
+  pub behind : after ≡ before ++ new
+  pub are : LabelJoins row u blocks a new
+
+-- what the blocks give for the labels below a number, less the row, in order
+pub record JoinsBelow (row : List Born) (u : Vertex) (blocks : List Block) (k : ℕ) (new : List Edge) : Type 0 where
+  pub each : All (λ e. (e.src ≡ u) × (e.label.0 < k) × Gives blocks e.label e.dst × (HasEdge row e → ⊥)) new
+  pub all : (a : LabelId) (w : Vertex) → a.0 < k → Gives blocks a w → HasEdge row (edge u a w) ⊎ Contains new (edge u a w)
+  pub ascending : IsAscending new
+
+pub record AppendsBelow (row : List Born) (u : Vertex) (blocks : List Block) (k : ℕ) (before after : List Edge) : Type 0 where
+  pub new : List Edge
+  pub behind : after ≡ before ++ new
+  pub are : JoinsBelow row u blocks k new
+
+-- no block has a label from one number to before the next, or one above all labels
+pub record IsNextLabel (blocks : List Block) (from next : ℕ) : Type 0 where
+  pub on : from ≤ next
+  pub small : next ≤ 65536
+  pub none : All (λ k. (k.label.0 < from) ⊎ ((next ≤ k.label.0) × (k.label.0 < 65536))) blocks

@@ -3,8 +3,10 @@
 
 mod blocks;
 mod merging;
+mod round;
 mod row_starts;
 mod rows;
+mod sieve;
 mod span;
 mod vertex_set;
 

@@ -1,5 +1,5 @@
 //! The edges of loaded partitions, row after row.
-ghost use Rattle.std.specs.Prelude.{Some, ◌≡◌, ◌↔◌, ◌≤◌, ◌++◌, ℕ, List, All, length, filter, IsTrue, IfOk, OnOk, OnErr, nat_le};
+ghost use Rattle.std.specs.Prelude.{Some, ◌≡◌, ◌↔◌, ◌≤◌, ◌++◌, ℕ, List, All, length, filter, IsTrue, IfSome, IfOk, OnOk, OnErr, nat_le};
 ghost use Rattle.graph_words.specs.declared.types.Born.{Born as ABorn};
 ghost use Rattle.graph_words.specs.Reach.{IsAscending};
 ghost use Rattle.partition_file.specs.Spelling.{Part, IsPart, row_of};
@@ -117,6 +117,22 @@ impl Rows {
         let _ = &self.edges;
     }
 
+    /// The allocator of the rows.
+    pub(crate) fn alloc(&self) -> Global {
+        *self.edges.allocator()
+    }
+
+    /// The intervals.
+    pub(crate) fn spans(&self) -> (Span, Option<Span>)
+        ensures low { result.0 ≡ self.now.low }
+        ensures high { result.1 ≡ self.now.high }
+        ensures bounds { result.0.lo ≤ result.0.hi }
+        ensures high_bounds { IfSome result.1 (λ s. s.lo ≤ s.hi) }
+        ensures loaded { IsLoaded self.now }
+    {
+        (self.low, self.high)
+    }
+
     /// How many edges there are.
     pub fn len(&self) -> usize
         ensures len { result ≡ length self.now.edges }
@@ -188,7 +204,7 @@ impl Rows {
         ensures ok { OnOk result (Absorbs self.old new.now birth self.new) }
         ensures err { OnErr result (self.new ≡ self.old) }
     {
-        let alloc = *self.edges.allocator();
+        let alloc = self.alloc();
         let all = merged(alloc, &self.edges, new.as_slice(), birth)?;
         *self = Rows::of_edges(alloc, self.low, self.high, all)?;
         Ok(())
@@ -205,7 +221,7 @@ impl Rows {
     pub(crate) fn newer(&self, since: u64) -> Result<Rows, AllocError>
         ensures { IfOk result (λ r. r ≡ newer_of since self.now) }
     {
-        let alloc = *self.edges.allocator();
+        let alloc = self.alloc();
         let edges = born_since(alloc, &self.edges, since)?;
         Rows::of_edges(alloc, self.low, self.high, edges)
     }
