@@ -1,6 +1,6 @@
 -- The steps of a run.
 use Rattle.std.proofs.Common.{◌≡◌, ◌⊎◌, inl, inr, ℕ, ◌<◌, ◌≤◌, List, [], ◌∷◌, ◌++◌, length, drop, Option, Some, None, sym, ap, ◌∙◌, subst, arith}
-use Rattle.std.specs.Prelude.{All, Contains, IsSome}
+use Rattle.std.specs.Prelude.{All, Contains}
 use Rattle.std.specs.List.{flat_map}
 use Rattle.std.proofs.lemmas.List.{take-append-drop}
 use Rattle.std.proofs.lemmas.List.Elements.{All-contains, All-weaker}
@@ -19,11 +19,12 @@ use Rattle.io_edge.specs.Reading.{ReadsWhole}
 use Rattle.io_edge.proofs.FaultLemmas.{long_text_has_fault}
 use Rattle.edge_text.specs.EdgesText.{ReadsFile, edges_fault, edges_of, graph_of, vertex_count_of}
 use Rattle.edge_text.proofs.GraphLemmas.{IsGraph-with_count}
+use Rattle.normal_law.specs.Closure.{IsNamed}
 use Rattle.grammar_norm.specs.GrammarText.{grammar_fault, grammar_names, rule_fault, rules_of}
 use Rattle.graspan_top.specs.declared.status.Status.{Status}
-use Rattle.graspan_top.specs.declared.status.Status.TheVariants.{Done, Words, InputFault, ReadFault, WriteFault, NoMemory, RuleShape}
+use Rattle.graspan_top.specs.declared.status.Status.TheVariants.{Done, Words, InputFault, ReadFault, WriteFault, NoMemory}
 use Rattle.graspan_top.specs.Words.{Files}
-use Rattle.graspan_top.specs.Headline.{AreGood, Explains, IsClosureOf, IsGoodGrammar, IsPrintedClosure, Prints, TakesLine, WhereTold, edges_text, fault_text, names_of}
+use Rattle.graspan_top.specs.Headline.{AreGood, Explains, IsClosureOf, IsGoodGrammar, IsPrintedClosure, Prints, TakesLine, WhereTold, edges_text, fault_line, names_of}
 use Rattle.graspan_top.specs.Stages.{IsPrintable, ListsClosure, ReadsGrammarFile, Refuses, RefusesEdges}
 
 -- a text without a fault is the whole file
@@ -34,35 +35,31 @@ whole_file file value (inr p) none =
     let h = sym f.here ∙ none in
     absurd (cc)
 
-fault_is : (a b : Option Fault) (f : Fault) → a ≡ Some f → b ≡ Some f → IsSome a → IsSome b
-fault_is a b f p q some = subst (λ (o : Option Fault). IsSome o) (p ∙ sym q) some
-
--- a text with a fault shows that the file has one
-pub file_fault : (file value : List ℕ) → ReadsWhole 16781312 file value → IsSome (grammar_fault value) → IsSome (grammar_fault file)
-file_fault file value (inl same) some = subst (λ (t : List ℕ). IsSome (grammar_fault t)) same some
-file_fault file value (inr p) some =
+-- the first fault of a text is that of the file
+pub file_fault : (file value : List ℕ) (f : Fault) → ReadsWhole 16781312 file value → grammar_fault value ≡ Some f → grammar_fault file ≡ Some f
+file_fault file value f (inl same) first = ap grammar_fault (sym same) ∙ first
+file_fault file value f (inr p) first =
     let rest = drop (length value) file in
-    let f = long_text_has_fault 16777216 rule_fault value rest (let l = p.past in omega arith) in
+    let h = long_text_has_fault 16777216 rule_fault value rest (let l = p.past in omega arith) in
     let all : value ++ rest ≡ file = ap (λ t. t ++ rest) p.front ∙ take-append-drop (length value) file in
-    fault_is (grammar_fault value) (grammar_fault file) f.fault f.here (ap grammar_fault (sym all) ∙ f.there) some
+    ap grammar_fault (sym all) ∙ h.there ∙ sym h.here ∙ first
 
 -- a refusal of the edge file, behind a good grammar
 pub edges_refused : (grammar_told edges_told : Option (List ℕ)) (grammar_rose rose edges_rose : Type 0) (rules : List Rule) (names : List (List ℕ)) → ReadsGrammarFile grammar_told rules names → (rose → edges_rose) → (s : Status) → ((ns : List (List ℕ)) → names ≡ distinct ns → RefusesEdges ns edges_told rose s) → Refuses grammar_told edges_told grammar_rose edges_rose s
 edges_refused gt et gr r er rules names g later Done h = h (grammar_names g.text) g.reads.names_are
 edges_refused gt et gr r er rules names g later Words h = h (grammar_names g.text) g.reads.names_are
-edges_refused gt et gr r er rules names g later (InputFault Grammar) h = absurd (h (grammar_names g.text) g.reads.names_are)
-edges_refused gt et gr r er rules names g later (InputFault Edges) h =
+edges_refused gt et gr r er rules names g later (InputFault Grammar line kind) h = absurd (h (grammar_names g.text) g.reads.names_are)
+edges_refused gt et gr r er rules names g later (InputFault Edges line kind) h =
     λ file t.
     let same = g.is_file file t in (
-      subst IsGoodGrammar same (record { whole = g.reads.whole; pairs = g.pairs }),
-      subst (λ (b : List ℕ). WhereTold et (λ e. IsSome (edges_fault (grammar_names b) e))) same (h (grammar_names g.text) g.reads.names_are),
+      subst IsGoodGrammar same g.reads.whole,
+      subst (λ (b : List ℕ). WhereTold et (λ e. edges_fault (grammar_names b) e ≡ Some (record { line = line; kind = kind }))) same (h (grammar_names g.text) g.reads.names_are),
     )
-edges_refused gt et gr r er rules names g later (InputFault Source) h = h (grammar_names g.text) g.reads.names_are
+edges_refused gt et gr r er rules names g later (InputFault Source line kind) h = h (grammar_names g.text) g.reads.names_are
 edges_refused gt et gr r er rules names g later ReadFault h =
-    inr ((λ file t. subst IsGoodGrammar (g.is_file file t) (record { whole = g.reads.whole; pairs = g.pairs })), later (h (grammar_names g.text) g.reads.names_are))
+    inr ((λ file t. subst IsGoodGrammar (g.is_file file t) g.reads.whole), later (h (grammar_names g.text) g.reads.names_are))
 edges_refused gt et gr r er rules names g later WriteFault h = h (grammar_names g.text) g.reads.names_are
 edges_refused gt et gr r er rules names g later NoMemory h = tt
-edges_refused gt et gr r er rules names g later RuleShape h = absurd (h (grammar_names g.text) g.reads.names_are)
 
 -- the same where the inputs were asked before, and tell the same still
 pub edges_refused_later : (grammar_told edges_told then_told : Option (List ℕ)) (grammar_rose rose edges_rose : Type 0) (rules : List Rule) (names : List (List ℕ)) → then_told ≡ edges_told → ReadsGrammarFile grammar_told rules names → (rose → edges_rose) → (s : Status) → ((ns : List (List ℕ)) → names ≡ distinct ns → RefusesEdges ns then_told rose s) → Refuses grammar_told edges_told grammar_rose edges_rose s
@@ -76,25 +73,29 @@ same_files o a b p q = cc
 pub refused_explains : (grammar_told edges_told : Option (List ℕ)) (grammar_rose edges_rose out_rose : Type 0) (s : Status) → Refuses grammar_told edges_told grammar_rose edges_rose s → Explains grammar_told edges_told grammar_rose edges_rose out_rose s
 refused_explains gt et gr er wr Done h = absurd h
 refused_explains gt et gr er wr Words h = h
-refused_explains gt et gr er wr (InputFault Grammar) h = h
-refused_explains gt et gr er wr (InputFault Edges) h = h
-refused_explains gt et gr er wr (InputFault Source) h = h
+refused_explains gt et gr er wr (InputFault Grammar line kind) h = h
+refused_explains gt et gr er wr (InputFault Edges line kind) h = h
+refused_explains gt et gr er wr (InputFault Source line kind) h = h
 refused_explains gt et gr er wr ReadFault h = h
 refused_explains gt et gr er wr WriteFault h = absurd h
 refused_explains gt et gr er wr NoMemory h = h
-refused_explains gt et gr er wr RuleShape h = h
 
 -- and prints its line
-pub refused_prints : (grammar_told edges_told old new : Option (List ℕ)) (grammar_rose edges_rose out_rose : Type 0) (s : Status) → Refuses grammar_told edges_told grammar_rose edges_rose s → TakesLine old new out_rose (fault_text s ++ 10 ∷ []) → Prints grammar_told edges_told old new out_rose s
+pub refused_prints : (grammar_told edges_told old new : Option (List ℕ)) (grammar_rose edges_rose out_rose : Type 0) (s : Status) → Refuses grammar_told edges_told grammar_rose edges_rose s → TakesLine old new out_rose (fault_line s) → Prints grammar_told edges_told old new out_rose s
 refused_prints gt et old new gr er wr Done h p = absurd h
 refused_prints gt et old new gr er wr Words h p = p
-refused_prints gt et old new gr er wr (InputFault Grammar) h p = p
-refused_prints gt et old new gr er wr (InputFault Edges) h p = p
-refused_prints gt et old new gr er wr (InputFault Source) h p = p
+refused_prints gt et old new gr er wr (InputFault Grammar line kind) h p = p
+refused_prints gt et old new gr er wr (InputFault Edges line kind) h p = p
+refused_prints gt et old new gr er wr (InputFault Source line kind) h p = p
 refused_prints gt et old new gr er wr ReadFault h p = p
 refused_prints gt et old new gr er wr WriteFault h p = absurd h
 refused_prints gt et old new gr er wr NoMemory h p = p
-refused_prints gt et old new gr er wr RuleShape h p = p
+
+-- the labels of an edge file's graph are named
+pub named_labels : (names : List (List ℕ)) (told : Option (List ℕ)) (graph : List Edge) (table : List (List ℕ)) → ReadsFile names told graph table → All (λ e. IsNamed e.label) graph
+named_labels names told graph table f =
+    let short = f.reads.short in
+    All-weaker (λ (e : Edge). e.label.0 < length table) (λ (e : Edge). IsNamed e.label) (λ e h. omega arith) graph f.reads.numbered
 
 -- The closure of what was read.
 module _ (grammar_told edges_told : Option (List ℕ)) (rules : List Rule) (names table : List (List ℕ)) (graph listed : List Edge) (g : ReadsGrammarFile grammar_told rules names) (f : ReadsFile (grammar_names g.text) edges_told graph table) where
@@ -134,7 +135,7 @@ module _ (grammar_told edges_told : Option (List ℕ)) (rules : List Rule) (name
         edges = f.text;
         is_grammar = g.is_file;
         is_edges = f.is_file;
-        good = record { grammar_is = record { whole = g.reads.whole; pairs = g.pairs }; edges_whole = f.reads.whole };
+        good = record { grammar_is = g.reads.whole; edges_whole = f.reads.whole };
         names_are = f.reads.table_is;
         closure =
             subst (λ (h : Graph). IsClosureOf h (rules_of (names_of g.text f.text) g.text) listed) whole

@@ -1,5 +1,5 @@
 -- What a run answers and prints, in terms of the two texts.
-use Rattle.std.specs.Prelude.{◌≡◌, ℕ, ◌⊎◌, List, [], ◌∷◌, ◌++◌, All, Contains, Option, IsSome, Some, None, codes, slice_index_or}
+use Rattle.std.specs.Prelude.{◌≡◌, ℕ, ◌⊎◌, List, [], ◌∷◌, ◌++◌, All, Contains, Option, Some, None, codes, decimal, slice_index_or}
 use Rattle.std.specs.List.{flat_map}
 use Rattle.std.specs.Io.KnownBytes.{Appends}
 use Rattle.graph_words.specs.declared.types.Vertex.{Vertex}
@@ -13,9 +13,10 @@ use Rattle.io_edge.specs.Devices.{AppendsPrefix}
 use Rattle.io_edge.specs.Lines.{lines}
 use Rattle.edge_text.specs.EdgesText.{edges_fault, graph_of}
 use Rattle.edge_text.specs.Print.{edge_bytes}
-use Rattle.grammar_norm.specs.GrammarText.{grammar_fault, grammar_names, rules_of, HasPairsOnly, HasOtherShape}
+use Rattle.grammar_norm.specs.GrammarText.{grammar_fault, grammar_names, rules_of}
+use Rattle.graspan_top.specs.Names.{file_name, kind_name}
 use Rattle.graspan_top.specs.declared.status.Status.{Status}
-use Rattle.graspan_top.specs.declared.status.Status.TheVariants.{Done, Words, InputFault, ReadFault, WriteFault, NoMemory, RuleShape}
+use Rattle.graspan_top.specs.declared.status.Status.TheVariants.{Done, Words, InputFault, ReadFault, WriteFault, NoMemory}
 
 -- the names of both texts, the grammar's first: a label's number is the place of its name
 abbrev pub names_of : List ℕ → List ℕ → List (List ℕ)
@@ -35,10 +36,9 @@ edges_text names listed = flat_map (λ e. edge_bytes e.src.0 e.dst.0 (slice_inde
 abbrev pub WhereTold : Option (List ℕ) → (List ℕ → Type 0) → Type 0
 WhereTold told P = (file : List ℕ) → told ≡ Some file → P file
 
--- each rule line of a text without a fault has three words
-pub record IsGoodGrammar (grammar : List ℕ) : Type 0 where
-  pub whole : grammar_fault grammar ≡ None
-  pub pairs : HasPairsOnly grammar
+-- a grammar's text has no fault
+abbrev pub IsGoodGrammar : List ℕ → Type 0
+IsGoodGrammar grammar = grammar_fault grammar ≡ None
 
 -- a graph's text has no fault behind a good grammar
 pub record AreGood (grammar edges : List ℕ) : Type 0 where
@@ -60,25 +60,21 @@ pub record IsPrintedClosure (grammar_told edges_told : Option (List ℕ)) (text 
 abbrev pub Explains : Option (List ℕ) → Option (List ℕ) → Type 0 → Type 0 → Type 0 → Status → Type 0
 Explains grammar edges grammar_rose edges_rose out_rose Done = WhereTold grammar (λ g. WhereTold edges (λ e. AreGood g e))
 Explains grammar edges grammar_rose edges_rose out_rose Words = ⊥
-Explains grammar edges grammar_rose edges_rose out_rose (InputFault Grammar) = WhereTold grammar (λ g. IsSome (grammar_fault g))
-Explains grammar edges grammar_rose edges_rose out_rose (InputFault Edges) = WhereTold grammar (λ g. IsGoodGrammar g × WhereTold edges (λ e. IsSome (edges_fault (grammar_names g) e)))
-Explains grammar edges grammar_rose edges_rose out_rose (InputFault Source) = ⊥
+Explains grammar edges grammar_rose edges_rose out_rose (InputFault Grammar line kind) = WhereTold grammar (λ g. grammar_fault g ≡ Some (record { line = line; kind = kind }))
+Explains grammar edges grammar_rose edges_rose out_rose (InputFault Edges line kind) = WhereTold grammar (λ g. IsGoodGrammar g × WhereTold edges (λ e. edges_fault (grammar_names g) e ≡ Some (record { line = line; kind = kind })))
+Explains grammar edges grammar_rose edges_rose out_rose (InputFault Source line kind) = ⊥
 Explains grammar edges grammar_rose edges_rose out_rose ReadFault = grammar_rose ⊎ (WhereTold grammar IsGoodGrammar × edges_rose)
 Explains grammar edges grammar_rose edges_rose out_rose WriteFault = WhereTold grammar (λ g. WhereTold edges (λ e. AreGood g e)) × out_rose
 Explains grammar edges grammar_rose edges_rose out_rose NoMemory = Unit {0}
-Explains grammar edges grammar_rose edges_rose out_rose RuleShape = WhereTold grammar (λ g. (grammar_fault g ≡ None) × HasOtherShape g)
 
--- the line of a refusal, without its line feed
-abbrev pub fault_text : Status → List ℕ
-fault_text Done = []
-fault_text Words = codes "fault words"
-fault_text (InputFault Grammar) = codes "fault input grammar"
-fault_text (InputFault Edges) = codes "fault input edges"
-fault_text (InputFault Source) = codes "fault input source"
-fault_text ReadFault = codes "fault read"
-fault_text WriteFault = []
-fault_text NoMemory = codes "fault memory"
-fault_text RuleShape = codes "fault rule shape"
+-- the line of a refusal, with its line feed
+abbrev pub fault_line : Status → List ℕ
+fault_line Done = []
+fault_line Words = codes "fault words" ++ 10 ∷ []
+fault_line (InputFault file line kind) = codes "fault input " ++ (file_name file ++ (32 ∷ (decimal line ++ (32 ∷ (kind_name kind ++ 10 ∷ [])))))
+fault_line ReadFault = codes "fault read" ++ 10 ∷ []
+fault_line WriteFault = []
+fault_line NoMemory = codes "fault memory" ++ 10 ∷ []
 
 -- all of a line was taken, or a write failed and a prefix of it was
 abbrev pub TakesLine : Option (List ℕ) → Option (List ℕ) → Type 0 → List ℕ → Type 0
@@ -88,4 +84,4 @@ TakesLine old new out_rose line = Appends old new line ⊎ (out_rose × AppendsP
 abbrev pub Prints : Option (List ℕ) → Option (List ℕ) → Option (List ℕ) → Option (List ℕ) → Type 0 → Status → Type 0
 Prints grammar edges old new out_rose Done = (text : List ℕ) × IsPrintedClosure grammar edges text × Appends old new text
 Prints grammar edges old new out_rose WriteFault = (text : List ℕ) × IsPrintedClosure grammar edges text × AppendsPrefix old new text
-Prints grammar edges old new out_rose status = TakesLine old new out_rose (fault_text status ++ 10 ∷ [])
+Prints grammar edges old new out_rose status = TakesLine old new out_rose (fault_line status)

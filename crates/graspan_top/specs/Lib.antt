@@ -1,4 +1,5 @@
 pub mod Codes
+pub mod Names
 pub mod Words
 pub mod Headline
 pub mod Stages

@@ -5,7 +5,7 @@ ghost use Rattle.io_edge.specs.Devices.{Rose};
 ghost use Rattle.edge_text.specs.EdgesText.{ReadsFile};
 ghost use Rattle.graspan_top.specs.declared.status.Status.TheVariants.{Words};
 ghost use Rattle.graspan_top.specs.Words.{Files as TheFiles, reading};
-ghost use Rattle.graspan_top.specs.Headline.{Explains, Prints, TakesLine, fault_text};
+ghost use Rattle.graspan_top.specs.Headline.{Explains, Prints, TakesLine, fault_line};
 ghost use Rattle.graspan_top.specs.Stages.{ListsClosure, ReadsGrammarFile, Refuses, RefusesEdges, RefusesGrammar};
 
 use crate::print::{print_edges, print_refusal};
@@ -28,7 +28,6 @@ fn read_grammar_file<I: Inputs>(
     name: &str,
 ) -> Result<(Grammar, LabelTable), Status>
     ensures read { IfOk result (λ read. ReadsGrammarFile (I.told inputs.old name.now) read.0 read.1) }
-    ensures pairs { IfOk result (λ read. All (λ r. length r.right ≡ 2) read.0) }
     ensures refused { IfErr result (RefusesGrammar (I.told inputs.old name.now) (Rose (I.faults inputs.old name.now) (I.faults inputs.new name.now))) }
     ensures kept { I.told inputs.new ≡ I.told inputs.old }
     ensures others { (other : List ℕ) → I.faults inputs.old other ≤ I.faults inputs.new other }
@@ -40,10 +39,11 @@ fn read_grammar_file<I: Inputs>(
     };
     match read_grammar(alloc, &bytes) {
         Ok(read) => Ok(read),
-        Err(GrammarFault::Fault) => Err(Status::InputFault {
+        Err(GrammarFault::Text { line, kind }) => Err(Status::InputFault {
             file: InputFile::Grammar,
+            line,
+            kind,
         }),
-        Err(GrammarFault::Shape) => Err(Status::RuleShape),
         Err(GrammarFault::NoMemory) => Err(Status::NoMemory),
     }
 }
@@ -64,8 +64,10 @@ fn read_edges_file<I: Inputs>(
     match read_edges(alloc, inputs, name, table) {
         Ok(edges) => Ok(edges),
         Err(EdgesFault::ReadFailed) => Err(Status::ReadFault),
-        Err(EdgesFault::Text { .. }) => Err(Status::InputFault {
+        Err(EdgesFault::Text { line, kind }) => Err(Status::InputFault {
             file: InputFile::Edges,
+            line,
+            kind,
         }),
         Err(EdgesFault::NoMemory) => Err(Status::NoMemory),
     }
@@ -91,7 +93,7 @@ fn list_closure<I: Inputs>(
     let (grammar, mut table) = read_grammar_file(alloc, inputs, files.grammar)?;
     let graph = read_edges_file(alloc, inputs, files.edges, &mut table)?;
     let vertices = vertex_count(graph.as_slice());
-    match closure(alloc, vertices, &graph, grammar.rules()) {
+    match closure(alloc, vertices, &graph, &grammar) {
         Ok(edges) => Ok(Listed { table, edges }),
         Err(_) => Err(Status::NoMemory),
     }
@@ -124,7 +126,7 @@ pub fn graspan<I: Inputs, O: Sink>(
     ensures printed { (files : TheFiles) → reading words.now ≡ Some files
         → Prints (I.told inputs.old files.grammar) (I.told inputs.old files.edges) (O.told out.old) (O.told out.new)
         (Rose (O.faults out.old) (O.faults out.new)) result }
-    ensures refused { reading words.now ≡ None → TakesLine (O.told out.old) (O.told out.new) (Rose (O.faults out.old) (O.faults out.new)) (fault_text result ++ 10 ∷ []) }
+    ensures refused { reading words.now ≡ None → TakesLine (O.told out.old) (O.told out.new) (Rose (O.faults out.old) (O.faults out.new)) (fault_line result) }
     ensures kept { I.told inputs.new ≡ I.told inputs.old }
 {
     let Some(files) = read_words(words) else {

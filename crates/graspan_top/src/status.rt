@@ -1,5 +1,5 @@
 //! What a command answers.
-use io_edge::InputFile;
+use io_edge::{InputFile, InputKind};
 
 /// How a command ended, with the number that the program ends with.
 #[derive(Clone, Copy, Debug, PartialEq, Eq)]
@@ -8,16 +8,18 @@ pub enum Status {
     Done,
     /// 1: the words have no reading.
     Words,
-    /// 2: the text of this file has a first fault.
-    InputFault { file: InputFile },
+    /// 2: the first fault of this file's text: its line, counted from 1, and its kind.
+    InputFault {
+        file: InputFile,
+        line: u64,
+        kind: InputKind,
+    },
     /// 4: a read of an input failed.
     ReadFault,
     /// 6: a write to the output failed.
     WriteFault,
     /// 7: memory was wanted.
     NoMemory,
-    /// 12: a rule line hasn't three words.
-    RuleShape,
 }
 
 impl Status {
@@ -35,7 +37,6 @@ impl Status {
             Status::ReadFault => 4,
             Status::WriteFault => 6,
             Status::NoMemory => 7,
-            Status::RuleShape => 12,
         }
     }
 }

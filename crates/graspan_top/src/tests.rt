@@ -3,6 +3,16 @@ use io_edge::{InputFile, MemInputs, MemSink, NamedBytes, WordList};
 use std::alloc::Global;
 use std::test::Fail;
 
+/// The lines `0 0 l0` to `0 0 lN`.
+fn many_labels(alloc: Global, last: u32) -> Result<Vec<u8>, Fail> {
+    let mut text = Vec::new(alloc);
+    for n in 0..=last {
+        let line = format!(in alloc; "0 0 l{n}\n")?;
+        text.extend_from_slice(line.as_bytes())?;
+    }
+    Ok(text)
+}
+
 /// The file `e` with these edges and the file `g` with this grammar.
 fn two_files(alloc: Global, edges: &[u8], grammar: &[u8]) -> Result<MemInputs, Fail> {
     let mut files = Vec::new(alloc);
@@ -40,9 +50,53 @@ fn a_run_prints_the_closure_or_one_line(rt: HostRuntime) -> Result<(), Fail> {
             b"0 0 a\n0 1 a\n1 0 a\n1 1 a\n",
             0,
         ),
-        (b"0 1 a\n1 2 b\n", b"S a\n", b"fault rule shape\n", 12),
-        (b"0 1 a\n0 1\n", b"S a b\n", b"fault input edges\n", 2),
-        (b"0 1 a\n", b"S a \x01\n", b"fault input grammar\n", 2),
+        // Empty rules, brackets, single rules in a cycle, and rules that begin alike.
+        (b"", b"S\n", b"", 0),
+        (b"0 2 x\n", b"S\n", b"0 0 S\n0 2 x\n1 1 S\n2 2 S\n", 0),
+        (
+            b"0 0 (\n0 1 )\n1 0 )\n",
+            b"S\nS ( S ) S\n",
+            b"0 0 S\n0 1 S\n0 0 (\n0 1 )\n1 1 S\n1 0 )\n",
+            0,
+        ),
+        (
+            b"0 1 A\n1 2 B\n",
+            b"A B\nB A\n",
+            b"0 1 A\n0 1 B\n1 2 A\n1 2 B\n",
+            0,
+        ),
+        (
+            b"0 1 a\n1 2 b\n2 3 c\n3 4 d\n4 5 e\n",
+            b"S a b c d e\nT a b c x y\n",
+            b"0 5 S\n0 1 a\n1 2 b\n2 3 c\n3 4 d\n4 5 e\n",
+            0,
+        ),
+        // A right side whose every label derives the empty word.
+        (
+            b"1 1 x\n",
+            b"S A A A A\nA\n",
+            b"0 0 S\n0 0 A\n1 1 S\n1 1 A\n1 1 x\n",
+            0,
+        ),
+        // First faults, with their lines.
+        (
+            b"0 1 a\n0 1\n",
+            b"S a b\n",
+            b"fault input edges 2 WrongCount\n",
+            2,
+        ),
+        (
+            b"0 1 a\n",
+            b"S a\r\n\n# remark\nS a \x01\n",
+            b"fault input grammar 4 BadLabel\n",
+            2,
+        ),
+        (
+            b"0 16777216 a",
+            b"",
+            b"fault input edges 1 BadDestination\n",
+            2,
+        ),
         // No edge at all, a loop, and lines that say an edge twice.
         (b"", b"S a b\n", b"", 0),
         (b"3 3 a\n", b"S a a\n", b"3 3 S\n3 3 a\n", 0),
@@ -69,6 +123,25 @@ fn a_run_prints_the_closure_or_one_line(rt: HostRuntime) -> Result<(), Fail> {
         );
         assert_eq!(rt; out.bytes(), printed);
         assert_eq!(rt; status.code(), code);
+    }
+    Ok(())
+}
+
+#[test]
+fn the_1001st_label_is_one_too_many(rt: HostRuntime) -> Result<(), Fail> {
+    let alloc = rt.alloc();
+    let words = word_list(alloc, &["run", "e", "g"])?;
+    for (last, code) in [(999, 0), (1000, 2)] {
+        let mut inputs = two_files(alloc, &many_labels(alloc, last)?, b"")?;
+        let mut out = MemSink::new(alloc);
+        let status = graspan(alloc, &words, &mut inputs, &mut out);
+        assert_eq!(rt; status.code(), code);
+        if code == 2 {
+            assert_eq!(rt;
+                out.bytes(),
+                b"fault input edges 1001 TooManyLabels\n".as_slice()
+            );
+        }
     }
     Ok(())
 }

@@ -1,58 +1,88 @@
--- What is made of the edges is reached, and a list that has all joins is closed.
-use Rattle.std.proofs.Common.{◌≡◌, ℕ, List, [], ◌∷◌, length, get_or, refl, arith, sym, subst}
-use Rattle.std.specs.Prelude.{All, Contains}
-use Rattle.std.proofs.lemmas.List.Elements.{All-contains, Contains-get_or}
+-- What is listed is in the closure, and a list that has all joins has all of the closure.
+use Rattle.std.proofs.Common.{◌≡◌, ◌⊎◌, ℕ, ◌<◌, Bool, true, cond, List, [], ◌∷◌, ◌++◌, length, get_or, refl, arith, sym, subst, ap, ◌∙◌, inl, inr}
+use Rattle.std.specs.Prelude.{All, Contains, filter, nat_lt, slice_index_or, ◌-◌, ◌↔◌}
+use Rattle.std.proofs.lemmas.Bool.Decides.{nat_tests}
+use Rattle.std.proofs.lemmas.List.Elements.{All-append, All-contains, All-filter, All-weaker, filter_passes}
+use Rattle.closing_machine.proofs.Members.{Contains-filter}
 use Rattle.graph_words.specs.declared.types.Vertex.{Vertex}
 use Rattle.graph_words.specs.declared.types.LabelId.{LabelId}
 use Rattle.graph_words.specs.declared.types.Edge.{Edge}
 use Rattle.graph_words.specs.declared.types.Rule.{Rule}
-use Rattle.graph_words.specs.Reach.{graph_with, Graph, IsGraph, InRange, edge, rule, Reach, IsClosed}
-use Rattle.graph_words.proofs.ReachLaws.{Reach-start, Reach-end, Reach-edge, Reach-append, Reach-rule, Reach-in_closed}
-use Rattle.plain_closing.proofs.Adding.{AddsMade-each, AddsMade-keeps}
-use Rattle.plain_closing.specs.Joins.{AddsMade, Applies, IsJoin, HasJoins, HasAllJoins, Made, given, joined}
+use Rattle.graph_words.specs.Reach.{graph_with, Graph, IsGraph, edge, rule, Reach}
+use Rattle.graph_words.proofs.ReachLaws.{Reach-label}
+use Rattle.normal_law.specs.Closure.{Normal, IsLabelOf, IsNamed, IsUp, HasNamedLabels, Closure, given, loop}
+use Rattle.normal_law.specs.Closed.{Joins, IsClosedOver}
+use Rattle.normal_law.specs.NormalForm.{fresh_words, normal_form}
+use Rattle.normal_law.proofs.ClosedLemmas.{Closure-in_closed}
+use Rattle.normal_form.specs.Grammar.{IsGrammar}
+use Rattle.plain_closing.specs.Begin.{AddsOf, IsAboveSome, IsLoop}
+use Rattle.plain_closing.specs.Joins.{AddsMade, BeginsClosing, HasAbove, HasAllJoins, HasJoins, HasLoops, IsClosing, is_named}
+use Rattle.plain_closing.proofs.Adding.{AddsMade-all, AddsMade-keeps, AddsOf-keeps}
 
--- what a rule makes of two edges is reached where these are
-join_reached : (g : Graph) (rules : List Rule) (first second e : Edge) → Reach g rules first.src (first.label ∷ []) first.dst → Reach g rules second.src (second.label ∷ []) second.dst → IsJoin rules first second e → Reach g rules e.src (e.label ∷ []) e.dst
-join_reached g rules first second e p q j =
-    let q' = subst (λ (x : Vertex). Reach g rules x (second.label ∷ []) second.dst) (sym j.2.0) q in
-    let both = Reach-append g rules first.src first.dst second.dst (first.label ∷ []) (second.label ∷ []) p q' in
-    let m = subst (λ (l : List LabelId). Contains rules (rule j.0.left l)) j.2.1 j.1 in
-    subst (λ (x : Edge). Reach g rules x.src (x.label ∷ []) x.dst) (sym j.3)
-    (Reach-rule g rules first.src second.dst j.0.left (first.label ∷ second.label ∷ []) m both)
+-- a closing begins with the labels above each edge, and then the loops
+pub BeginsClosing-from : (n : Normal) (vertices : ℕ) (graph first edges : List Edge) → All (HasAbove n first) graph → All (IsAboveSome n graph) first → AddsOf (IsLoop n vertices) first edges → ((v : ℕ) → v < vertices → HasLoops n edges v) → BeginsClosing n (graph_with vertices graph) edges
+BeginsClosing-from n vertices graph first edges above only grown loops =
+    record {
+      above = All-weaker (HasAbove n first) (HasAbove n edges) (λ e h a up. AddsOf-keeps (IsLoop n vertices) first edges grown (edge e.src a e.dst) (h a up)) graph above;
+      loops = loops;
+      made =
+          subst (λ (l : List Edge). All (IsClosing n (graph_with vertices graph)) l) (sym grown.at_end)
+          (All-append (IsClosing n (graph_with vertices graph)) first grown.added
+          (All-weaker (IsAboveSome n graph) (IsClosing n (graph_with vertices graph)) (λ e h. given h.0 h.1 h.2) first only)
+          (All-weaker (IsLoop n vertices) (IsClosing n (graph_with vertices graph)) is_loop grown.added grown.each));
+    }
+  where
+    is_loop : (e : Edge) → IsLoop n vertices e → IsClosing n (graph_with vertices graph) e
+    is_loop e h = subst (λ (v : Vertex). Closure n (graph_with vertices graph) e.src e.label v) h.0 (loop h.1 h.2)
 
-pub Made-reached : {rules : List Rule} {edges : List Edge} {e : Edge} → Made rules edges e → (g : Graph) → IsGraph g → All (Contains g.edges) edges → Reach g rules e.src (e.label ∷ []) e.dst
-Made-reached {rules = rules} {edges = edges} {e = e} (given m) g is only = Reach-edge g rules e is (All-contains (Contains g.edges) edges e only m)
-Made-reached {rules = rules} {edges = edges} {e = e} (joined first second p q j) g is only =
-    join_reached g rules first second e (Made-reached p g is only) (Made-reached q g is only) j
+-- a list that began so and has all joins is closed over the graph
+module _ (n : Normal) (g : Graph) (first edges : List Edge) (begins : BeginsClosing n g first) (made : AddsMade n first edges) (all : HasAllJoins n edges) where
+  is_closed : IsClosedOver n g (Contains edges)
+  is_closed =
+      record {
+        given = λ u v b a m up. AddsMade-keeps n first edges made (edge u a v) (All-contains (HasAbove n first) g.edges (edge u b v) begins.above m a up);
+        loops = λ u a lt e. AddsMade-keeps n first edges made (edge u a u) (begins.loops u.0 lt a e);
+        joins = λ u v w b c a x y j.
+            let from_first : All (HasJoins n edges (edge u b v)) edges = All-contains (λ (f : Edge). All (HasJoins n edges f) edges) edges (edge u b v) all x in
+            All-contains (HasJoins n edges (edge u b v)) edges (edge v c w) from_first y refl a j;
+      }
 
--- where each rule has two labels on the right, a list that has all joins is closed
-pub HasAllJoins-closed : (n : ℕ) (rules : List Rule) (edges : List Edge) → All (λ r. length r.right ≡ 2) rules → HasAllJoins rules edges → IsClosed (Contains edges) n rules
-HasAllJoins-closed n rules edges pairs all a [] u v m p = absurd (omega (arith, All-contains (λ (r : Rule). length r.right ≡ 2) rules (rule a []) pairs m))
-HasAllJoins-closed n rules edges pairs all a (b ∷ []) u v m p = absurd (omega (arith, All-contains (λ (r : Rule). length r.right ≡ 2) rules (rule a (b ∷ [])) pairs m))
-HasAllJoins-closed n rules edges pairs all a (b ∷ c ∷ d ∷ ds) u v m p = absurd (omega (arith, All-contains (λ (r : Rule). length r.right ≡ 2) rules (rule a (b ∷ c ∷ d ∷ ds)) pairs m))
-HasAllJoins-closed n rules edges pairs all a (b ∷ c ∷ []) u v m p =
-    let first = edge u b p.0 in
-    let second = edge p.0 c p.2.0 in
-    let from_first : All (HasJoins rules edges first) edges = All-contains (λ (f : Edge). All (HasJoins rules edges f) edges) edges first all p.1 in
-    let from_second : HasJoins rules edges first second = All-contains (HasJoins rules edges first) edges second from_first p.2.1 in
-    let here : Contains edges (edge u a p.2.0) = All-contains (λ (r : Rule). Applies r first second → Contains edges (edge u r.left p.2.0)) rules (rule a (b ∷ c ∷ [])) from_second m (refl, refl) in
-    subst (λ (x : Vertex). Contains edges (edge u a x)) p.2.2.0 here
+  pub has_closure : (u v : Vertex) (a : LabelId) → Closure n g u a v → Contains edges (edge u a v)
+  has_closure u v a c = Closure-in_closed c (Contains edges) is_closed
 
--- What each call of the closing promises: each holds the graph's edges, and edges what the joins add. So every edge is reached, and every edge that is reached is there.
-module _ (n : ℕ) (rules : List Rule) (graph each edges : List Edge) (is : IsGraph (graph_with n graph)) (all : All (Contains each) graph) (only : All (Contains graph) each) (made : AddsMade rules each edges) where
-  reached : (e : Edge) → Contains edges e → Reach (graph_with n graph) rules e.src (e.label ∷ []) e.dst
-  reached e m = Made-reached (AddsMade-each rules each edges made e m) (graph_with n graph) is only
+  pub in_closure : All (IsClosing n g) edges
+  in_closure = AddsMade-all n g first edges made begins.made
 
-  pub closing_reached : All (λ e. Reach (graph_with n graph) rules e.src (e.label ∷ []) e.dst) edges
-  closing_reached k d l = reached (get_or edges k d) (Contains-get_or edges k d l)
+-- a named label stands for itself
+stands_for_itself : (rules : List Rule) (a : LabelId) → IsNamed a → (normal_form rules).stands a ≡ a ∷ []
+stands_for_itself rules a lt =
+    let test : nat_lt a.0 1000 ≡ true = grind (arith, nat_tests) in
+    ap (λ t. cond t (a ∷ []) (slice_index_or (fresh_words rules) (a.0 - 1000) [])) test
 
-  closing_in_range : InRange (Contains edges) n
-  closing_in_range e m =
-      let r = reached e m in
-      (Reach-start (graph_with n graph) rules e.src e.dst (e.label ∷ []) is r, Reach-end (graph_with n graph) rules e.src e.dst (e.label ∷ []) r)
+-- what reaches has a named label
+reached_named : (g : Graph) (rules : List Rule) (u v : Vertex) (a : LabelId) → All (λ e. IsNamed e.label) g.edges → HasNamedLabels rules → Reach g rules u (a ∷ []) v → IsNamed a
+reached_named g rules u v a labels named r = go (Reach-label g rules u v a r)
+  where
+    go : ((x : Vertex) × Contains g.edges (edge u a x)) ⊎ ((r : List LabelId) × Contains rules (rule a r)) → IsNamed a
+    go (inl p) = All-contains (λ (e : Edge). IsNamed e.label) g.edges (edge u a p.0) labels p.1
+    go (inr p) = (All-contains (λ (r : Rule). IsNamed r.left × All IsNamed r.right) rules (rule a p.0) named p.1).0
 
-  closing_keeps : (e : Edge) → Contains graph e → Contains edges e
-  closing_keeps e m = AddsMade-keeps rules each edges made e (All-contains (Contains each) graph e all m)
+abbrev pub Law : List Rule → Graph → Type 0
+Law rules g = (u v : Vertex) (l : LabelId) → IsLabelOf (normal_form rules) l → (Closure (normal_form rules) g u l v ↔ Reach g rules u ((normal_form rules).stands l) v)
 
-  pub closing_has : All (λ r. length r.right ≡ 2) rules → HasAllJoins rules edges → (u v : Vertex) (a : LabelId) → Reach (graph_with n graph) rules u (a ∷ []) v → Contains edges (edge u a v)
-  closing_has pairs closed u v a r = Reach-in_closed (graph_with n graph) rules (Contains edges) u v a closing_keeps closing_in_range (HasAllJoins-closed n rules edges pairs closed) r
+-- What each call of the closing promises, over the law of the normal form.
+module _ (rules : List Rule) (g : Graph) (first edges : List Edge) (law : Law rules g) (limits : IsGrammar rules) (labels : All (λ e. IsNamed e.label) g.edges) (begins : BeginsClosing (normal_form rules) g first) (made : AddsMade (normal_form rules) first edges) (all : HasAllJoins (normal_form rules) edges) where
+  pub closing_reached : All (λ e. Reach g rules e.src (e.label ∷ []) e.dst) (filter is_named edges)
+  closing_reached k d l =
+      let e = get_or (filter is_named edges) k d in
+      let test : is_named e ≡ true = filter_passes is_named edges k d l in
+      let named : IsNamed e.label = grind (arith, nat_tests) in
+      let closing = All-filter is_named (IsClosing (normal_form rules) g) edges (in_closure (normal_form rules) g first edges begins made all) k d l in
+      subst (λ (f : List LabelId). Reach g rules e.src f e.dst) (stands_for_itself rules e.label named) ((law e.src e.dst e.label (inl named)).0 closing)
+
+  pub closing_has : (u v : Vertex) (a : LabelId) → Reach g rules u (a ∷ []) v → Contains (filter is_named edges) (edge u a v)
+  closing_has u v a r =
+      let named : IsNamed a = reached_named g rules u v a labels limits.named r in
+      let test : nat_lt a.0 1000 ≡ true = grind (arith, nat_tests) in
+      let stands = subst (λ (f : List LabelId). Reach g rules u f v) (sym (stands_for_itself rules a named)) r in
+      Contains-filter is_named edges (edge u a v) (has_closure (normal_form rules) g first edges begins made all u v a ((law u v a (inl named)).1 stands)) test

@@ -1,8 +1,9 @@
 //! Edges in the order in which they were added, each once.
 ghost use Rattle.std.specs.Prelude.{◌≡◌, ◌<◌, [], length, slice_get, Some, OnOk, OnErr};
+ghost use Rattle.plain_closing.specs.Begin.{AddsEach};
 ghost use Rattle.plain_closing.specs.Joins.{AddsNew, IsOnce};
 
-use graph_words::Edge;
+use graph_words::{Edge, LabelId, Vertex};
 use std::alloc::{AllocError, Global};
 use std::collections::BTreeSet;
 use std::marker::Model;
@@ -59,6 +60,25 @@ impl EdgeSet {
         self.edges.reserve(1)?;
         if self.known.insert(edge)? {
             self.edges.push(edge).unwrap();
+        }
+        Ok(())
+    }
+
+    /// Adds an edge between two vertices for each of the labels.
+    pub(crate) fn add_each(
+        &mut self,
+        src: Vertex,
+        labels: &[LabelId],
+        dst: Vertex,
+    ) -> Result<(), AllocError>
+        ensures { OnOk result (AddsEach src labels.now dst self.old self.new) }
+    {
+        for label in labels {
+            self.add(Edge {
+                src,
+                label: *label,
+                dst,
+            })?;
         }
         Ok(())
     }

@@ -1,6 +1,6 @@
 use Rattle.std.proofs.Common.{arith}
 use Rattle.std.proofs.lemmas.Result.{on_ok_weaker}
-use Rattle.plain_closing.proofs.Adding.{AddsMade-then, AddsMade-length, Contains-from_at, IsJoiningWith-has, IsJoiningWith-step, IsJoiningWith-end}
+use Rattle.plain_closing.proofs.Adding.{on_ok_both, AddsMade-then, AddsMade-length, Contains-from_at, IsJoiningWith-has, IsJoiningWith-step, IsJoiningWith-end}
 use Rattle.plain_closing.proofs.joins.join_edge.Goals as goal
 
 pub at-other-requires : goal.at-other-requires
@@ -11,9 +11,6 @@ add_joins_both-requires-clause-first c = IsJoiningWith-has _ _ _ _ _ _ c.loop-j.
 
 pub add_joins_both-requires-clause-second : goal.add_joins_both-requires-clause-second
 add_joins_both-requires-clause-second c = Contains-from_at _ _ _ c.at-other.ensures
-
-pub returns-in_err-add_joins_both-clause-made : goal.returns-in_err-add_joins_both-clause-made
-returns-in_err-add_joins_both-clause-made c = AddsMade-then _ _ _ _ c.loop-j.invariant.made c.in_err-add_joins_both.ensures.made
 
 pub loop-j-preserved : goal.loop-j-preserved
 loop-j-preserved c =
@@ -26,8 +23,8 @@ pub add_joins-requires-clause-second : goal.add_joins-requires-clause-second
 add_joins-requires-clause-second c = IsJoiningWith-has _ _ _ _ _ _ c.loop-j.invariant
 
 pub returns-clause-made : goal.returns-clause-made
-returns-clause-made c = AddsMade-then _ _ _ _ c.loop-j.invariant.made c.add_joins.ensures.made
+returns-clause-made c = on_ok_weaker c.add_joins.result (λ m. AddsMade-then _ _ _ _ c.loop-j.invariant.made m) c.add_joins.ensures.made
 
 pub returns-clause-joined : goal.returns-clause-joined
 returns-clause-joined c =
-    on_ok_weaker c.add_joins.result (λ p. IsJoiningWith-end _ _ _ _ _ _ _ (omega arith) (omega arith) c.loop-j.invariant c.add_joins.ensures.made p) c.add_joins.ensures.joined
+    on_ok_both c.add_joins.result (λ m p. IsJoiningWith-end _ _ _ _ _ _ _ (omega arith) (omega arith) c.loop-j.invariant m p) c.add_joins.ensures.made c.add_joins.ensures.joined
