@@ -11,7 +11,7 @@ use crate::sieve::Sieve;
 use crate::span::Span;
 use graph_words::{Edge, EdgeList, Vertex};
 use normal_form::Normal;
-use std::alloc::AllocError;
+use std::alloc::{AllocError, Global};
 
 /// The rows of a round, with those of them that are new for it.
 #[derive(Clone, Copy)]
@@ -90,10 +90,14 @@ impl Rows {
     ///
     /// The round goes row by row, so that its edges come out in order: for each vertex, each new edge from there with
     /// the row of its end, and each old edge with the new edges of that row.
-    pub fn joins(&self, normal: &Normal, since: u64) -> Result<EdgeList, AllocError>
+    pub fn joins(
+        &self,
+        alloc: Global,
+        normal: &Normal,
+        since: u64,
+    ) -> Result<EdgeList, AllocError>
         ensures { IfOk result (IsRound (normal_form normal.now) self.now.edges since) }
     {
-        let alloc = self.alloc();
         let newer = self.newer(since)?;
         let snapshot = Snapshot {
             rows: self,
