@@ -1,0 +1,6 @@
+mod SetLemmas
+mod RowLemmas
+mod OrderLemmas
+mod MergeLemmas
+mod LoadedLemmas
+mod SearchLemmas
