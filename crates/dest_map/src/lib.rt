@@ -1,0 +1,9 @@
+//! How many edges lead from each partition of a graph into each.
+#![tactic(auto)]
+
+mod map;
+
+pub use map::{DestMap, parent_of};
+
+#[cfg(test)]
+mod tests;
