@@ -11,7 +11,7 @@ use Rattle.graph_words.specs.declared.types.Edge.{Edge}
 use Rattle.graph_words.specs.declared.types.Born.{Born}
 use Rattle.normal_law.specs.Closure.{Normal}
 use Rattle.normal_law.specs.Closed.{Joins}
-use Rattle.closing_machine.specs.Rounds.{born, all_born, IsCandidate, IsInOrder, IsJoin, IsRound, Rounds, begun, again}
+use Rattle.closing_machine.specs.Rounds.{born, all_born, IsCandidate, IsJoin, IsRound, Rounds, begun, again}
 use Rattle.closing_machine.specs.PairRun.{IsPairRun}
 use Rattle.closing_machine.proofs.Members.{either, All-from_members}
 use Rattle.closing_machine.proofs.Rounding.{all_joined, rounds_joined, rounds_keep}
@@ -19,7 +19,7 @@ use Rattle.closing_machine.proofs.Going.{rounds_longer}
 use Rattle.closing_machine.proofs.Determined.{same_rounds}
 use Rattle.row_table.specs.Loaded.{Loaded, IsLoaded, IsRow, Absorbs}
 use Rattle.superstep.specs.Joined.{AreJoined, AreJoinedBelow}
-use Rattle.superstep.specs.Room.{IsInFormat, capacity_of, capacity_of_high}
+use Rattle.superstep.specs.Room.{IsInFormat, capacity_of}
 use Rattle.superstep.proofs.RoomLemmas.{fits}
 
 -- a round's edges begin where loaded edges begin
