@@ -1,0 +1,9 @@
+mod SetLemmas
+mod RowLemmas
+mod OrderLemmas
+mod MergeLemmas
+mod LoadedLemmas
+mod SearchLemmas
+mod BlockLemmas
+mod SieveLemmas
+mod JoinLemmas

@@ -1,0 +1,15 @@
+use Rattle.std.proofs.Common.{◌≡◌}
+use Rattle.normal_law.specs.NormalForm.{normal_form}
+use Rattle.row_table.proofs.BlockLemmas.{row_labels_of}
+use Rattle.row_table.proofs.JoinLemmas.{row_sources, vertex_appends}
+use Rattle.row_table.proofs.round.join_vertex.Goals as goal
+
+pub join_row-requires-clause-labels : goal.join_row-requires-clause-labels
+join_row-requires-clause-labels c = rw c.row.ensures.row (row_labels_of c.args.vertex.0 c.args.snapshot.now.rows.now.edges c.row.ensures.loaded.ordered)
+
+pub join_row-requires-clause-source : goal.join_row-requires-clause-source
+join_row-requires-clause-source c = rw c.row.ensures.row (row_sources c.args.vertex c.args.snapshot.now.rows.now.edges)
+
+pub returns : goal.returns
+returns c =
+    vertex_appends (normal_form c.args.snapshot.now.normal.now) c.args.snapshot.now.rows.now.edges c.args.snapshot.now.since c.args.vertex _ _ c.deref.ensures.value c.in_ok-set_blocks.ensures c.args.out.now.items _ (rw c.row.ensures.row at c.in_ok-join_row.ensures.joins) c.in_ok-join_row.ensures.labels

@@ -1,0 +1,129 @@
+-- The joins of a round, row after row.
+use Rattle.std.specs.Prelude.{◌≡◌, ℕ, ◌+◌, ◌<◌, ◌≤◌, ◌⊎◌, ◌↔◌, eqb, Bool, false, true, List, ◌++◌, All, AllPairs, Contains}
+use Rattle.std.specs.List.{IsDistinct}
+use Rattle.graph_words.specs.declared.types.Vertex.{Vertex}
+use Rattle.graph_words.specs.declared.types.LabelId.{LabelId}
+use Rattle.graph_words.specs.declared.types.Edge.{Edge}
+use Rattle.graph_words.specs.declared.types.Born.{Born}
+use Rattle.graph_words.specs.Reach.{IsAscending, edge}
+use Rattle.normal_law.specs.Closure.{Normal}
+use Rattle.normal_law.specs.Closed.{Joins}
+use Rattle.partition_file.specs.Spelling.{row_of}
+use Rattle.closing_machine.specs.Rounds.{IsCandidate, IsOrdered, HasEdge}
+use Rattle.row_table.specs.declared.blocks.Block.{Block}
+use Rattle.row_table.specs.Sieve.{HasVertex}
+
+-- ---- what the rows give
+
+-- the joins from the vertices of a kind that the edges lack, in order
+pub record JoinsWhere (n : Normal) (edges : List Born) (since : ℕ) (P : ℕ → Type 0) (new : List Edge) : Type 0 where
+  pub joins : All (λ e. (x : Vertex) × IsCandidate n edges since x e) new
+  pub sources : All (λ e. P e.src.0) new
+  pub absent : All (λ e. HasEdge edges e → ⊥) new
+  pub complete : (x : Vertex) (e : Edge) → IsCandidate n edges since x e → P e.src.0 → HasEdge edges e ⊎ Contains new e
+  pub ascending : IsAscending new
+
+-- they stand behind what was there
+pub record AppendsJoins (n : Normal) (edges : List Born) (since : ℕ) (P : ℕ → Type 0) (before after : List Edge) : Type 0 where
+  pub new : List Edge
+  pub behind : after ≡ before ++ new
+  pub are : JoinsWhere n edges since P new
+
+-- ---- the blocks of a row
+
+-- the labels of the edges do not fall
+abbrev pub LabelsAscend : List Born → Type 0
+LabelsAscend row = AllPairs (λ x y. x.edge.label.0 ≤ y.edge.label.0) row
+
+-- some edge of the row ends at w and joins with a first label to a
+abbrev pub JoinsTo : Normal → LabelId → List Born → LabelId → Vertex → Type 0
+JoinsTo n first row a w = (c : Born) × Contains row c × Joins n first c.edge.label a × (c.edge.dst ≡ w)
+
+-- some block has the label a and an edge that ends at w
+abbrev pub Gives : List Block → LabelId → Vertex → Type 0
+Gives blocks a w = (k : Block) × Contains blocks k × (k.label ≡ a) × ((c : Born) × Contains k.seconds.now c × (c.edge.dst ≡ w))
+
+-- the blocks give what they gave, and what the first label joins to with the row
+abbrev pub AddsJoins : Normal → LabelId → List Born → List Block → List Block → Type 0
+AddsJoins n first row before after = (a : LabelId) (w : Vertex) → Gives after a w ↔ (Gives before a w ⊎ JoinsTo n first row a w)
+
+-- a first edge that counts: each, or each that is born before since
+abbrev pub Counts : Bool → ℕ → Born → Type 0
+Counts every since b = (every ≡ true) ⊎ (b.birth < since)
+
+-- the blocks give what they gave, and what a first edge, if it counts, joins to with the row of its end
+abbrev pub AddsFirst : Normal → Bool → ℕ → Born → List Born → List Block → List Block → Type 0
+AddsFirst n every since b edges before after = (a : LabelId) (w : Vertex)
+    → Gives after a w ↔ (Gives before a w ⊎ (Counts every since b × JoinsTo n b.edge.label (row_of b.edge.dst.0 edges) a w))
+
+-- and so with each of these first edges
+abbrev pub AddsRows : Normal → Bool → ℕ → List Born → List Born → List Block → List Block → Type 0
+AddsRows n every since firsts edges before after = (a : LabelId) (w : Vertex)
+    → Gives after a w ↔ (Gives before a w ⊎ ((b : Born) × Contains firsts b × Counts every since b × JoinsTo n b.edge.label (row_of b.edge.dst.0 edges) a w))
+
+-- the blocks give just what joins from u
+abbrev pub GivesJoins : Normal → List Born → ℕ → Vertex → List Block → Type 0
+GivesJoins n edges since u blocks = (a : LabelId) (w : Vertex) → Gives blocks a w ↔ ((x : Vertex) × IsCandidate n edges since x (edge u a w))
+
+-- ---- the ends of a label
+
+abbrev pub vertex : ℕ → Vertex
+vertex w = record { 0 = w }
+
+-- an edge of the list ends at w
+abbrev pub EndsHere : List Born → ℕ → Type 0
+EndsHere run w = (c : Born) × Contains run c × (c.edge.dst.0 ≡ w)
+
+-- an edge of the row has the label and ends at w
+abbrev pub HasEnd : List Born → LabelId → ℕ → Type 0
+HasEnd row a w = (c : Born) × Contains row c × (c.edge.label ≡ a) × (c.edge.dst.0 ≡ w)
+
+-- the blocks have the label with an edge that ends at w
+abbrev pub GivesEnd : List Block → LabelId → ℕ → Type 0
+GivesEnd blocks a w = Gives blocks a (vertex w)
+
+-- one block has the label and an edge that ends at w
+abbrev pub BlockGives : Block → LabelId → ℕ → Type 0
+BlockGives k a w = (k.label ≡ a) × EndsHere k.seconds.now w
+
+-- the set has these ends too, and no other
+pub record MarksEnds (given : ℕ → Type 0) (before after : List Bool) : Type 0 where
+  pub keeps : (w : ℕ) → HasVertex before w → HasVertex after w
+  pub has : (w : ℕ) → given w → HasVertex after w
+  pub only : (w : ℕ) → HasVertex after w → HasVertex before w ⊎ given w
+
+-- the ends that were not in the set are in it now, and were put to those found
+pub record Sifts (given : ℕ → Type 0) (before after : List Bool) (found_before found_after : List ℕ) : Type 0 where
+  pub marks : MarksEnds given before after
+  pub keeps : (w : ℕ) → Contains found_before w → Contains found_after w
+  pub has : (w : ℕ) → given w → HasVertex before w ⊎ Contains found_after w
+  pub only : (w : ℕ) → Contains found_after w → Contains found_before w ⊎ ((HasVertex before w → ⊥) × given w)
+  pub once : All (HasVertex before) found_before → IsDistinct eqb found_before → All (HasVertex after) found_after × IsDistinct eqb found_after
+
+-- what the blocks give for a label, less the row, in order
+pub record LabelJoins (row : List Born) (u : Vertex) (blocks : List Block) (a : LabelId) (new : List Edge) : Type 0 where
+  pub each : All (λ e. (e.src ≡ u) × (e.label ≡ a) × Gives blocks a e.dst × (HasEdge row e → ⊥)) new
+  pub all : (w : Vertex) → Gives blocks a w → HasEdge row (edge u a w) ⊎ Contains new (edge u a w)
+  pub ascending : IsAscending new
+
+pub record AppendsLabel (row : List Born) (u : Vertex) (blocks : List Block) (a : LabelId) (before after : List Edge) : Type 0 where
+  pub new : List Edge
+  pub behind : after ≡ before ++ new
+  pub are : LabelJoins row u blocks a new
+
+-- what the blocks give for the labels below a number, less the row, in order
+pub record JoinsBelow (row : List Born) (u : Vertex) (blocks : List Block) (k : ℕ) (new : List Edge) : Type 0 where
+  pub each : All (λ e. (e.src ≡ u) × (e.label.0 < k) × Gives blocks e.label e.dst × (HasEdge row e → ⊥)) new
+  pub all : (a : LabelId) (w : Vertex) → a.0 < k → Gives blocks a w → HasEdge row (edge u a w) ⊎ Contains new (edge u a w)
+  pub ascending : IsAscending new
+
+pub record AppendsBelow (row : List Born) (u : Vertex) (blocks : List Block) (k : ℕ) (before after : List Edge) : Type 0 where
+  pub new : List Edge
+  pub behind : after ≡ before ++ new
+  pub are : JoinsBelow row u blocks k new
+
+-- no block has a label from one number to before the next, or one above all labels
+pub record IsNextLabel (blocks : List Block) (from next : ℕ) : Type 0 where
+  pub on : from ≤ next
+  pub small : next ≤ 65536
+  pub none : All (λ k. (k.label.0 < from) ⊎ ((next ≤ k.label.0) × (k.label.0 < 65536))) blocks

@@ -1,0 +1,4 @@
+pub mod Loaded
+pub mod Index
+pub mod Sieve
+pub mod Joined

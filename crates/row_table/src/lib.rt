@@ -1,0 +1,14 @@
+//! The edges of one or two loaded partitions, row after row: the joins of a round, and the edges that it adds.
+#![tactic(auto)]
+
+mod blocks;
+mod merging;
+mod round;
+mod row_starts;
+mod rows;
+mod sieve;
+mod span;
+mod vertex_set;
+
+pub use rows::Rows;
+pub use span::Span;

@@ -1,0 +1,116 @@
+//! A round of joins, row after row.
+ghost use Rattle.std.specs.Prelude.{◌≡◌, ◌≤◌, IfSome, IfOk, OnOk};
+ghost use Rattle.normal_law.specs.NormalForm.{normal_form};
+ghost use Rattle.closing_machine.specs.Rounds.{IsRound};
+ghost use Rattle.row_table.specs.Loaded.{LiesIn, LiesInHigh, newer_of};
+ghost use Rattle.row_table.specs.Joined.{AppendsJoins};
+
+use crate::blocks::{Block, set_blocks};
+use crate::rows::Rows;
+use crate::sieve::Sieve;
+use crate::span::Span;
+use graph_words::{Edge, EdgeList, Vertex};
+use normal_form::Normal;
+use std::alloc::{AllocError, Global};
+
+/// The rows of a round, with those of them that are new for it.
+#[derive(Clone, Copy)]
+struct Snapshot<'a> {
+    rows: &'a Rows,
+    newer: &'a Rows,
+    normal: &'a Normal,
+    since: u64,
+}
+
+/// Adds the joins from one vertex that the rows lack.
+fn join_vertex<'a>(
+    snapshot: &Snapshot<'a>,
+    vertex: Vertex,
+    blocks: &mut Vec<Block<'a>>,
+    sieve: &mut Sieve,
+    out: &mut Vec<Edge>,
+) -> Result<(), AllocError>
+    requires { snapshot.now.newer.now ≡ newer_of snapshot.now.since snapshot.now.rows.now }
+    ensures { OnOk result (AppendsJoins (normal_form snapshot.now.normal.now) snapshot.now.rows.now.edges snapshot.now.since (λ v. v ≡ vertex.0) out.old.items out.new.items) }
+{
+    set_blocks(
+        snapshot.normal,
+        snapshot.rows,
+        snapshot.newer,
+        snapshot.since,
+        vertex,
+        blocks,
+    )?;
+    sieve.join_row(vertex, snapshot.rows.row(vertex.0), blocks, out)?;
+    Ok(())
+}
+
+/// Adds the joins from the vertices of an interval, one after the other.
+fn join_span<'a>(
+    snapshot: &Snapshot<'a>,
+    span: Span,
+    blocks: &mut Vec<Block<'a>>,
+    sieve: &mut Sieve,
+    out: &mut Vec<Edge>,
+) -> Result<(), AllocError>
+    requires newer { snapshot.now.newer.now ≡ newer_of snapshot.now.since snapshot.now.rows.now }
+    requires bounds { span.lo ≤ span.hi }
+    ensures { OnOk result (AppendsJoins (normal_form snapshot.now.normal.now) snapshot.now.rows.now.edges snapshot.now.since (LiesIn span) out.old.items out.new.items) }
+{
+    for vertex in span.lo..span.hi {
+        join_vertex(snapshot, Vertex(vertex), blocks, sieve, out)?;
+    }
+    Ok(())
+}
+
+/// Adds the joins from the vertices of the second interval, where there is one.
+fn join_high<'a>(
+    snapshot: &Snapshot<'a>,
+    high: Option<Span>,
+    blocks: &mut Vec<Block<'a>>,
+    sieve: &mut Sieve,
+    out: &mut Vec<Edge>,
+) -> Result<(), AllocError>
+    requires newer { snapshot.now.newer.now ≡ newer_of snapshot.now.since snapshot.now.rows.now }
+    requires bounds { IfSome high (λ s. s.lo ≤ s.hi) }
+    ensures { OnOk result (AppendsJoins (normal_form snapshot.now.normal.now) snapshot.now.rows.now.edges snapshot.now.since (LiesInHigh high) out.old.items out.new.items) }
+{
+    match high {
+        None => Ok(()),
+        Some(span) => {
+            join_span(snapshot, span, blocks, sieve, out)?;
+            Ok(())
+        }
+    }
+}
+
+impl Rows {
+    /// All joins that the rows lack, in order: each edge that two consecutive edges of the rows join to, of which one
+    /// is born at or after `since`.
+    ///
+    /// The round goes row by row, so that its edges come out in order: for each vertex, each new edge from there with
+    /// the row of its end, and each old edge with the new edges of that row.
+    pub fn joins(
+        &self,
+        alloc: Global,
+        normal: &Normal,
+        since: u64,
+    ) -> Result<EdgeList, AllocError>
+        ensures { IfOk result (IsRound (normal_form normal.now) self.now.edges since) }
+    {
+        let newer = self.newer(since)?;
+        let snapshot = Snapshot {
+            rows: self,
+            newer: &newer,
+            normal,
+            since,
+        };
+        let mut blocks = Vec::new(alloc);
+        let mut sieve = Sieve::new(alloc);
+        let mut out = Vec::new(alloc);
+        let (low, high) = self.spans();
+        join_span(&snapshot, low, &mut blocks, &mut sieve, &mut out)?;
+        join_high(&snapshot, high, &mut blocks, &mut sieve, &mut out)?;
+        Ok(EdgeList::from_vec(out))
+    }
+}

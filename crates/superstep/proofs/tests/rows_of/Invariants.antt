@@ -1,0 +1,11 @@
+use Rattle.std.proofs.Common.{◌≡◌}
+use Rattle.std.specs.Prelude.{All}
+use Rattle.superstep.specs.Room.{IsInFormat}
+use Rattle.superstep.proofs.tests.rows_of.Given as goal
+
+abbrev pub invariant-loop-edge : goal.invariant-loop-edge
+invariant-loop-edge g l = record {
+  low : l.rows.low ≡ l.initial.rows.low;
+  high : l.rows.high ≡ l.initial.rows.high;
+  format : All IsInFormat l.rows.edges;
+}
