@@ -43,7 +43,7 @@ contains_map f xs x m = (m.0, (let l : length (map f xs) ≡ length xs = length-
 same_label : (x y : LabelId) → x.0 ≡ y.0 → x ≡ y
 same_label x y e = let f : ℕ → LabelId = λ i. record { 0 = i } in ap f e
 
-same_vertex : (x y : Vertex) → x.0 ≡ y.0 → x ≡ y
+pub same_vertex : (x y : Vertex) → x.0 ≡ y.0 → x ≡ y
 same_vertex x y e = let f : ℕ → Vertex = λ i. record { 0 = i } in ap f e
 
 none_distinct : IsDistinct eqb []

@@ -7,3 +7,4 @@ mod SearchLemmas
 mod BlockLemmas
 mod SieveLemmas
 mod JoinLemmas
+mod CentreLemmas

@@ -12,6 +12,7 @@ use Rattle.partition_file.specs.Spelling.{row_of}
 use Rattle.closing_machine.specs.Rounds.{IsCandidate, IsOrdered, HasEdge}
 use Rattle.row_table.specs.declared.blocks.Block.{Block}
 use Rattle.row_table.specs.Sieve.{HasVertex}
+use Rattle.row_table.specs.Loaded.{IsCentre}
 
 -- ---- what the rows give
 
@@ -127,3 +128,21 @@ pub record IsNextLabel (blocks : List Block) (from next : ℕ) : Type 0 where
   pub on : from ≤ next
   pub small : next ≤ 65536
   pub none : All (λ k. (k.label.0 < from) ⊎ ((next ≤ k.label.0) × (k.label.0 < 65536))) blocks
+
+-- ---- centres
+
+-- the set has just the vertices where an edge ends
+abbrev pub IsEndSet : List Born → List Bool → Type 0
+IsEndSet edges ends = (w : ℕ) → HasVertex ends w ↔ EndsHere edges w
+
+-- the centres of a kind, in ascending order
+pub record CentresWhere (edges : List Born) (P : ℕ → Type 0) (centres : List Vertex) : Type 0 where
+  pub all : (x y : Born) → Contains edges x → Contains edges y → x.edge.dst ≡ y.edge.src → P x.edge.dst.0 → Contains centres x.edge.dst
+  pub only : All (λ v. IsCentre edges v × P v.0) centres
+  pub ascending : AllPairs (λ v w. v.0 < w.0) centres
+
+-- they stand behind what was there
+pub record AppendsCentres (edges : List Born) (P : ℕ → Type 0) (before after : List Vertex) : Type 0 where
+  pub new : List Vertex
+  pub behind : after ≡ before ++ new
+  pub are : CentresWhere edges P new

@@ -2,6 +2,7 @@
 #![tactic(auto)]
 
 mod blocks;
+mod centres;
 mod merging;
 mod round;
 mod row_starts;

@@ -13,7 +13,7 @@ use std::alloc::{AllocError, Global};
 const LABELS: u32 = 65_536;
 
 /// Puts the ends of the edges into the set.
-fn mark_run(run: &[Born], ends: &mut VertexSet) -> Result<(), AllocError>
+pub(crate) fn mark_run(run: &[Born], ends: &mut VertexSet) -> Result<(), AllocError>
     ensures { OnOk result (MarksEnds (EndsHere run.now) ends.old ends.new) }
 {
     for born in run {
