@@ -19,7 +19,7 @@ use Rattle.std.specs.Prelude.{nat_le}
 use Rattle.row_table.specs.Loaded.{newer_edges}
 use Rattle.row_table.proofs.SearchLemmas.{in_its_row, from_row, row_ordered}
 use Rattle.row_table.specs.declared.blocks.Block.{Block}
-use Rattle.row_table.specs.Joined.{Gives, JoinsTo, AddsJoins, AddsFirst, AddsRows, Counts, GivesJoins, LabelsAscend}
+use Rattle.row_table.specs.Joined.{Gives, JoinsTo, AddsJoins, AddsFirst, AddsRows, Counts, GivesJoins, IsJoinOf, LabelsAscend}
 
 -- some edge of the list ends at w
 abbrev pub EndsAt : List Born → Vertex → Type 0
@@ -246,13 +246,13 @@ module _ (n : Normal) (edges : List Born) (since : ℕ) (u : Vertex) where
           | inr le ↦ (s a w).1 (inl ((f a w).1 (inr (b, in_its_row (newer_edges since edges) b u.0 sb (newer_has since edges b c.has_first le), inl refl, (d, in_its_row edges d b.edge.dst.0 sd c.has_second, c.join.label, sym c.join.destination)))))
         ]
 
-    pub gives_joins : GivesJoins n edges since u second
+    pub gives_joins : GivesJoins (IsJoinOf n edges since) u second
     gives_joins a w = (to a w, back a w)
 
 pub row_labels_of : (v : ℕ) (edges : List Born) → IsOrdered edges → LabelsAscend (row_of v edges)
 row_labels_of v edges sorted = row_labels v (row_of v edges) (row_ordered v edges sorted) (All-from_members (λ (b : Born). b.edge.src.0 ≡ v) (row_of v edges) (λ b m. (from_row edges b v m).1))
 
-pub gives_for : (n : Normal) (edges newer : List Born) (since : ℕ) (u : Vertex) (row newer_row : List Born) (start first second : List Block) → start ≡ [] → newer ≡ newer_edges since edges → newer_row ≡ row_of u.0 newer → row ≡ row_of u.0 edges → AddsRows n true since newer_row edges start first → AddsRows n false since row newer first second → GivesJoins n edges since u second
+pub gives_for : (n : Normal) (edges newer : List Born) (since : ℕ) (u : Vertex) (row newer_row : List Born) (start first second : List Block) → start ≡ [] → newer ≡ newer_edges since edges → newer_row ≡ row_of u.0 newer → row ≡ row_of u.0 edges → AddsRows n true since newer_row edges start first → AddsRows n false since row newer first second → GivesJoins (IsJoinOf n edges since) u second
 gives_for n edges newer since u row newer_row start first second nil new is_newer_row is_row f s =
     gives_joins n edges since u first second
     (subst (λ (l : List Block). AddsRows n true since (row_of u.0 (newer_edges since edges)) edges l first) nil (subst (λ (r : List Born). AddsRows n true since r edges start first) (is_newer_row ∙ ap (λ (l : List Born). row_of u.0 l) new) f))

@@ -16,19 +16,23 @@ use Rattle.row_table.specs.Loaded.{IsCentre}
 
 -- ---- what the rows give
 
--- the joins from the vertices of a kind that the edges lack, in order
-pub record JoinsWhere (n : Normal) (edges : List Born) (since : ℕ) (P : ℕ → Type 0) (new : List Edge) : Type 0 where
-  pub joins : All (λ e. (x : Vertex) × IsCandidate n edges since x e) new
+-- e is a join at some vertex of two of the edges, of which one is born at or after since
+abbrev pub IsJoinOf : Normal → List Born → ℕ → Edge → Type 0
+IsJoinOf n edges since e = (x : Vertex) × IsCandidate n edges since x e
+
+-- all joins of a sort from the vertices of a kind that the edges lack, in order
+pub record JoinsWhere (edges : List Born) (IsOne : Edge → Type 0) (P : ℕ → Type 0) (new : List Edge) : Type 0 where
+  pub joins : All IsOne new
   pub sources : All (λ e. P e.src.0) new
   pub absent : All (λ e. HasEdge edges e → ⊥) new
-  pub complete : (x : Vertex) (e : Edge) → IsCandidate n edges since x e → P e.src.0 → HasEdge edges e ⊎ Contains new e
+  pub complete : (e : Edge) → IsOne e → P e.src.0 → HasEdge edges e ⊎ Contains new e
   pub ascending : IsAscending new
 
 -- they stand behind what was there
-pub record AppendsJoins (n : Normal) (edges : List Born) (since : ℕ) (P : ℕ → Type 0) (before after : List Edge) : Type 0 where
+pub record AppendsJoins (edges : List Born) (IsOne : Edge → Type 0) (P : ℕ → Type 0) (before after : List Edge) : Type 0 where
   pub new : List Edge
   pub behind : after ≡ before ++ new
-  pub are : JoinsWhere n edges since P new
+  pub are : JoinsWhere edges IsOne P new
 
 -- ---- the blocks of a row
 
@@ -62,9 +66,9 @@ abbrev pub AddsRows : Normal → Bool → ℕ → List Born → List Born → Li
 AddsRows n every since firsts edges before after = (a : LabelId) (w : Vertex)
     → Gives after a w ↔ (Gives before a w ⊎ ((b : Born) × Contains firsts b × Counts every since b × JoinsTo n b.edge.label (row_of b.edge.dst.0 edges) a w))
 
--- the blocks give just what joins from u
-abbrev pub GivesJoins : Normal → List Born → ℕ → Vertex → List Block → Type 0
-GivesJoins n edges since u blocks = (a : LabelId) (w : Vertex) → Gives blocks a w ↔ ((x : Vertex) × IsCandidate n edges since x (edge u a w))
+-- the blocks give just the joins of a sort from u
+abbrev pub GivesJoins : (Edge → Type 0) → Vertex → List Block → Type 0
+GivesJoins IsOne u blocks = (a : LabelId) (w : Vertex) → Gives blocks a w ↔ IsOne (edge u a w)
 
 -- ---- the ends of a label
 

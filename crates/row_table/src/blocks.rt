@@ -2,7 +2,7 @@
 ghost use Rattle.std.specs.Prelude.{◌≡◌, ◌+◌, ◌<◌, ◌≤◌, All, length, slice_range, slice_index_or, OnOk};
 ghost use Rattle.graph_words.specs.declared.types.Born.{Born as ABorn};
 ghost use Rattle.normal_law.specs.NormalForm.{normal_form};
-ghost use Rattle.row_table.specs.Joined.{LabelsAscend, AddsJoins, AddsFirst, AddsRows, GivesJoins};
+ghost use Rattle.row_table.specs.Joined.{LabelsAscend, AddsJoins, AddsFirst, AddsRows, GivesJoins, IsJoinOf};
 ghost use Rattle.row_table.specs.Loaded.{newer_of};
 
 use crate::row_starts::part;
@@ -127,7 +127,7 @@ pub(crate) fn set_blocks<'a>(
     blocks: &mut Vec<Block<'a>>,
 ) -> Result<(), AllocError>
     requires { newer.now ≡ newer_of since rows.now }
-    ensures { OnOk result (GivesJoins (normal_form normal.now) rows.now.edges since vertex blocks.new.items) }
+    ensures { OnOk result (GivesJoins (IsJoinOf (normal_form normal.now) rows.now.edges since) vertex blocks.new.items) }
 {
     blocks.clear();
     add_rows(normal, newer.row(vertex.0), true, since, rows, blocks)?;

@@ -3,7 +3,7 @@ ghost use Rattle.std.specs.Prelude.{◌≡◌, ◌≤◌, IfSome, IfOk, OnOk};
 ghost use Rattle.normal_law.specs.NormalForm.{normal_form};
 ghost use Rattle.closing_machine.specs.Rounds.{IsRound};
 ghost use Rattle.row_table.specs.Loaded.{LiesIn, LiesInHigh, newer_of};
-ghost use Rattle.row_table.specs.Joined.{AppendsJoins};
+ghost use Rattle.row_table.specs.Joined.{AppendsJoins, IsJoinOf};
 
 use crate::blocks::{Block, set_blocks};
 use crate::rows::Rows;
@@ -31,7 +31,7 @@ fn join_vertex<'a>(
     out: &mut Vec<Edge>,
 ) -> Result<(), AllocError>
     requires { snapshot.now.newer.now ≡ newer_of snapshot.now.since snapshot.now.rows.now }
-    ensures { OnOk result (AppendsJoins (normal_form snapshot.now.normal.now) snapshot.now.rows.now.edges snapshot.now.since (λ v. v ≡ vertex.0) out.old.items out.new.items) }
+    ensures { OnOk result (AppendsJoins snapshot.now.rows.now.edges (IsJoinOf (normal_form snapshot.now.normal.now) snapshot.now.rows.now.edges snapshot.now.since) (λ v. v ≡ vertex.0) out.old.items out.new.items) }
 {
     set_blocks(
         snapshot.normal,
@@ -55,7 +55,7 @@ fn join_span<'a>(
 ) -> Result<(), AllocError>
     requires newer { snapshot.now.newer.now ≡ newer_of snapshot.now.since snapshot.now.rows.now }
     requires bounds { span.lo ≤ span.hi }
-    ensures { OnOk result (AppendsJoins (normal_form snapshot.now.normal.now) snapshot.now.rows.now.edges snapshot.now.since (LiesIn span) out.old.items out.new.items) }
+    ensures { OnOk result (AppendsJoins snapshot.now.rows.now.edges (IsJoinOf (normal_form snapshot.now.normal.now) snapshot.now.rows.now.edges snapshot.now.since) (LiesIn span) out.old.items out.new.items) }
 {
     for vertex in span.lo..span.hi {
         join_vertex(snapshot, Vertex(vertex), blocks, sieve, out)?;
@@ -73,7 +73,7 @@ fn join_high<'a>(
 ) -> Result<(), AllocError>
     requires newer { snapshot.now.newer.now ≡ newer_of snapshot.now.since snapshot.now.rows.now }
     requires bounds { IfSome high (λ s. s.lo ≤ s.hi) }
-    ensures { OnOk result (AppendsJoins (normal_form snapshot.now.normal.now) snapshot.now.rows.now.edges snapshot.now.since (LiesInHigh high) out.old.items out.new.items) }
+    ensures { OnOk result (AppendsJoins snapshot.now.rows.now.edges (IsJoinOf (normal_form snapshot.now.normal.now) snapshot.now.rows.now.edges snapshot.now.since) (LiesInHigh high) out.old.items out.new.items) }
 {
     match high {
         None => Ok(()),
