@@ -8,3 +8,4 @@ mod BlockLemmas
 mod SieveLemmas
 mod JoinLemmas
 mod CentreLemmas
+mod ThroughLemmas

@@ -61,7 +61,7 @@ fn add_run<'a>(
 }
 
 /// Adds the blocks of a first label and the row behind it.
-fn add_row<'a>(
+pub(crate) fn add_row<'a>(
     normal: &Normal,
     first: LabelId,
     row: &'a [Born],

@@ -2,6 +2,7 @@
 #![tactic(auto)]
 
 mod blocks;
+mod centre_joins;
 mod centres;
 mod merging;
 mod round;
