@@ -1,8 +1,8 @@
 -- What blocks give.
-use Rattle.std.proofs.Common.{◌≡◌, ◌↔◌, ℕ, ◌+◌, ◌-◌, ◌<◌, ◌≤◌, ◌⊎◌, Bool, true, false, List, [], ◌∷◌, ◌++◌, length, get_or, take, drop, refl, sym, ap, subst, ◌∙◌, arith, inl, inr}
+use Rattle.std.proofs.Common.{◌≡◌, ◌↔◌, ℕ, suc, ◌+◌, ◌-◌, ◌<◌, ◌≤◌, ◌⊎◌, ◌==◌, Bool, true, false, List, [], ◌∷◌, ◌++◌, length, get_or, take, drop, refl, sym, ap, subst, ◌∙◌, arith, inl, inr}
 use Rattle.std.specs.Prelude.{All, AllPairs, Contains}
 use Rattle.std.proofs.lemmas.Bool.{cases_lt, cases_eq}
-use Rattle.std.proofs.lemmas.List.{take_more, take_all, take-take, drop-take, take-append-drop, get_or_default}
+use Rattle.std.proofs.lemmas.List.{length-take, length-drop, take_more, take_all, take-take, drop-take, take-append-drop, get_or_default}
 use Rattle.std.proofs.lemmas.List.Elements.{All-contains, Contains-append_left, Contains-append_right, Contains-append_cases, Contains-push, Contains-push_cases, Contains-get_or}
 use Rattle.graph_words.specs.declared.types.Vertex.{Vertex}
 use Rattle.graph_words.specs.declared.types.LabelId.{LabelId}
@@ -17,9 +17,11 @@ use Rattle.closing_machine.proofs.Members.{either, All-from_members, Contains-fi
 use Rattle.std.proofs.lemmas.Bool.Decides.{nat_tests}
 use Rattle.std.specs.Prelude.{nat_le}
 use Rattle.row_table.specs.Loaded.{newer_edges}
+use Rattle.row_table.proofs.RowLemmas.{some_born}
+use Rattle.row_table.proofs.OrderLemmas.{place_in_part, part_at}
 use Rattle.row_table.proofs.SearchLemmas.{in_its_row, from_row, row_ordered}
 use Rattle.row_table.specs.declared.blocks.Block.{Block}
-use Rattle.row_table.specs.Joined.{Gives, JoinsTo, AddsJoins, AddsFirst, AddsRows, Counts, GivesJoins, IsJoinOf, LabelsAscend}
+use Rattle.row_table.specs.Joined.{Gives, JoinsTo, AddsJoins, AddsSecond, AddsFirst, AddsRows, AreSeconds, PartsLabels, Counts, GivesJoins, IsJoinOf, LabelsAscend}
 
 -- some edge of the list ends at w
 abbrev pub EndsAt : List Born → Vertex → Type 0
@@ -113,6 +115,105 @@ front_grows xs i j le =
 pub joins_more : (n : Normal) (first : LabelId) (row : List Born) (i j : ℕ) (before now after : List Block) → i ≤ j → AddsJoins n first (take i row) before now → AddsJoins n first (take (j - i) (drop i row)) now after → AddsJoins n first (take j row) before after
 joins_more n first row i j before now after le f h = subst (λ (r : List Born). AddsJoins n first r before after) (front_grows row i j le) (joins_both n first (take i row) (take (j - i) (drop i row)) before now after f h)
 
+-- ---- the edges of a row with a label
+
+module _ (row : List Born) (from : ℕ) (up : LabelsAscend row) where
+  pub labels_up_to : (n : ℕ) (f : Born) → n < length row → (get_or row n f).edge.label.0 < from → (k : ℕ) (d : Born) → k < n + 1 → (get_or row k d).edge.label.0 < from
+  labels_up_to n f lt here k d le =
+      let at : (get_or row n d).edge.label.0 < from = subst (λ (b : Born). b.edge.label.0 < from) (get_or_default row n f d lt) here in
+      elim (cases_lt k n) [
+        | inl l ↦ (let g : (get_or row k d).edge.label.0 ≤ (get_or row n d).edge.label.0 = up k n d l lt in omega arith)
+        | inr g ↦ (let same : n ≡ k = omega arith in subst (λ (j : ℕ). (get_or row j d).edge.label.0 < from) same at)
+      ]
+
+  pub labels_from : (n : ℕ) (f : Born) → n < length row → from ≤ (get_or row n f).edge.label.0 → (k : ℕ) (d : Born) → n ≤ k → k < length row → from ≤ (get_or row k d).edge.label.0
+  labels_from n f lt here k d le end =
+      let at : from ≤ (get_or row n d).edge.label.0 = subst (λ (b : Born). from ≤ b.edge.label.0) (get_or_default row n f d lt) here in
+      elim (cases_lt n k) [
+        | inl l ↦ (let g : (get_or row n d).edge.label.0 ≤ (get_or row k d).edge.label.0 = up n k d l end in omega arith)
+        | inr g ↦ (let same : n ≡ k = omega arith in subst (λ (j : ℕ). from ≤ (get_or row j d).edge.label.0) same at)
+      ]
+
+module _ (row : List Born) (label : LabelId) (p q : ℕ) (first : PartsLabels row label.0 p) (second : PartsLabels row (label.0 + 1) q) where
+  pub places_in_order : p ≤ q
+  places_in_order =
+      elim (cases_lt q p) [
+        | inl lt ↦ absurd (
+          let below : (get_or row q some_born).edge.label.0 < label.0 = first.before q some_born lt in
+          let end : p ≤ length row = first.within in
+          let above : label.0 + 1 ≤ (get_or row q some_born).edge.label.0 = second.behind q some_born (omega arith) (omega arith) in
+          omega arith)
+        | inr le ↦ le
+      ]
+
+  pub in_run : (b : Born) → Contains (take (q - p) (drop p row)) b ↔ (Contains row b × (b.edge.label ≡ label))
+  in_run b = (
+      λ m. (let w = place_in_part row p (q - p) b m in
+        let le = places_in_order in
+        let k : ℕ = w.0 in
+        let on : p ≤ k = w.1 in
+        let l : k < p + (q - p) = w.2 in
+        let low : label.0 ≤ (get_or row k b).edge.label.0 = first.behind k b on w.3 in
+        let high : (get_or row k b).edge.label.0 < label.0 + 1 = second.before k b (omega arith) in
+        let e : (get_or row k b).edge.label.0 ≡ label.0 = omega arith in
+        ((k, w.3, w.4), same_label b.edge.label label (subst (λ (x : Born). x.edge.label.0 ≡ label.0) w.4 e))),
+      λ m. there m.0.0 m.0.1 m.0.2 (ap (λ (l : LabelId). l.0) m.1),
+  )
+    where
+      same_label : (x y : LabelId) → x.0 ≡ y.0 → x ≡ y
+      same_label x y e = let f : ℕ → LabelId = λ i. record { 0 = i } in ap f e
+
+      there : (k : ℕ) → k < length row → get_or row k b ≡ b → b.edge.label.0 ≡ label.0 → Contains (take (q - p) (drop p row)) b
+      there k lt is e =
+          let at : (get_or row k b).edge.label.0 ≡ label.0 = subst (λ (x : Born). x.edge.label.0 ≡ label.0) (sym is) e in
+          let on : p ≤ k = elim (cases_lt k p) [ inl l ↦ absurd (let h : (get_or row k b).edge.label.0 < label.0 = first.before k b l in omega arith) | inr g ↦ g ] in
+          let within : k < q = elim (cases_lt k q) [ inl l ↦ l | inr g ↦ absurd (let h : label.0 + 1 ≤ (get_or row k b).edge.label.0 = second.behind k b g lt in omega arith) ] in
+          let end : q ≤ length row = second.within in
+          let len : k - p < length (take (q - p) (drop p row)) = (let a = length-take (q - p) (drop p row) in let c = length-drop p row in omega arith) in
+          (k - p, len, part_at row p (q - p) (k - p) b len ∙ ap (λ (j : ℕ). get_or row j b) (let j : p + (k - p) ≡ k = omega arith in j) ∙ is)
+
+pub second_none : (n : Normal) (first : LabelId) (row : List Born) (label : LabelId) (blocks : List Block) (run : List Born) → ((b : Born) → Contains run b ↔ (Contains row b × (b.edge.label ≡ label))) → run ≡ [] → AddsSecond n first row label blocks blocks
+second_none n first row label blocks run has nil a w = (
+    λ g. inl g,
+    λ o. either (λ (g : Gives blocks a w). g) (λ (p : (c : Born) × Contains row c × (c.edge.label ≡ label) × Joins n first c.edge.label a × (c.edge.dst ≡ w)). absurd (let m : Contains [] p.0 = subst (λ (l : List Born). Contains l p.0) nil ((has p.0).1 (p.1, p.2)) in let l : m.0 < 0 = m.1 in omega arith)) o,
+)
+
+pub second_run : (n : Normal) (first : LabelId) (row : List Born) (label : LabelId) (before after : List Block) (run : List Born) → ((b : Born) → Contains run b ↔ (Contains row b × (b.edge.label ≡ label))) → AddsJoins n first run before after → AddsSecond n first row label before after
+second_run n first row label before after run has h a w = (
+    λ g. either (λ (o : Gives before a w). inl o) (λ (j : JoinsTo n first run a w). inr (let r = (has j.0).0 j.1 in (j.0, r.0, r.1, j.2, j.3))) ((h a w).0 g),
+    λ o. either (λ (g : Gives before a w). (h a w).1 (inl g)) (λ (p : (c : Born) × Contains row c × (c.edge.label ≡ label) × Joins n first c.edge.label a × (c.edge.dst ≡ w)). (h a w).1 (inr (p.0, (has p.0).1 (p.1, p.2), p.3, p.4))) o,
+)
+
+-- what a first label joins to with those edges of a row that have some of these labels
+abbrev pub AddsSome : Normal → LabelId → List Born → List LabelId → List Block → List Block → Type 0
+AddsSome n first row labels before after = (a : LabelId) (w : Vertex)
+    → Gives after a w ↔ (Gives before a w ⊎ ((c : Born) × Contains row c × Contains labels c.edge.label × Joins n first c.edge.label a × (c.edge.dst ≡ w)))
+
+pub some_none : (n : Normal) (first : LabelId) (row : List Born) (blocks : List Block) → AddsSome n first row [] blocks blocks
+some_none n first row blocks a w = (λ g. inl g, λ o. either (λ (g : Gives blocks a w). g) (λ (p : (c : Born) × Contains row c × Contains [] c.edge.label × Joins n first c.edge.label a × (c.edge.dst ≡ w)). absurd (let m : Contains [] p.0.edge.label = p.2 in let l : m.0 < 0 = m.1 in omega arith)) o)
+
+pub some_more : (n : Normal) (first : LabelId) (row : List Born) (labels : List LabelId) (i : ℕ) (d : LabelId) (before now after : List Block) → i < length labels → AddsSome n first row (take i labels) before now → AddsSecond n first row (get_or labels i d) now after → AddsSome n first row (take (i + 1) labels) before after
+some_more n first row labels i d before now after lt f h a w = (
+    λ g. either
+      (λ (g : Gives now a w). either (λ (o : Gives before a w). inl o) (λ (p : (c : Born) × Contains row c × Contains (take i labels) c.edge.label × Joins n first c.edge.label a × (c.edge.dst ≡ w)). inr (p.0, p.1, rw (take_more labels i d lt) (Contains-append_left (take i labels) (get_or labels i d ∷ []) p.0.edge.label p.2), p.3, p.4)) ((f a w).0 g))
+      (λ (p : (c : Born) × Contains row c × (c.edge.label ≡ get_or labels i d) × Joins n first c.edge.label a × (c.edge.dst ≡ w)). inr (p.0, p.1, rw (take_more labels i d lt) (subst (λ (l : LabelId). Contains (take i labels ++ get_or labels i d ∷ []) l) (sym p.2) (Contains-push (take i labels) (get_or labels i d))), p.3, p.4))
+      ((h a w).0 g),
+    λ o. either
+      (λ (g : Gives before a w). (h a w).1 (inl ((f a w).1 (inl g))))
+      (λ (p : (c : Born) × Contains row c × Contains (take (i + 1) labels) c.edge.label × Joins n first c.edge.label a × (c.edge.dst ≡ w)).
+        either
+        (λ (m : Contains (take i labels) p.0.edge.label). (h a w).1 (inl ((f a w).1 (inr (p.0, p.1, m, p.3, p.4)))))
+        (λ (s : get_or labels i d ≡ p.0.edge.label). (h a w).1 (inr (p.0, p.1, sym s, p.3, p.4)))
+        (Contains-push_cases (take i labels) (get_or labels i d) p.0.edge.label (rw (take_more labels i d lt) at p.2)))
+      o,
+)
+
+pub some_all : (n : Normal) (first : LabelId) (row : List Born) (labels : List LabelId) (i : ℕ) (before after : List Block) → AreSeconds n first labels → length labels ≤ i → AddsSome n first row (take i labels) before after → AddsJoins n first row before after
+some_all n first row labels i before after are le f a w = (
+    λ g. either (λ (o : Gives before a w). inl o) (λ (p : (c : Born) × Contains row c × Contains (take i labels) c.edge.label × Joins n first c.edge.label a × (c.edge.dst ≡ w)). inr (p.0, p.1, p.3, p.4)) ((f a w).0 g),
+    λ o. either (λ (g : Gives before a w). (f a w).1 (inl g)) (λ (p : JoinsTo n first row a w). (f a w).1 (inr (p.0, p.1, rw (take_all i labels le) (are p.0.edge.label a p.2), p.2, p.3))) o,
+)
+
 pub row_labels : (v : ℕ) (row : List Born) → IsOrdered row → All (λ b. b.edge.src.0 ≡ v) row → LabelsAscend row
 row_labels v row ordered source i j d lt end = grows (get_or row i d) (get_or row j d) (source i d (omega arith)) (source j d end) (ordered i j d lt end)
   where
@@ -169,6 +270,39 @@ module _ (n : Normal) (every : Bool) (since : ℕ) (firsts edges : List Born) (i
           (Contains-push_cases (take i firsts) (get_or firsts i d) p.0 (rw (take_more firsts i d lt) at p.1)))
         o,
   )
+
+pub firsts_both : (n : Normal) (every : Bool) (since : ℕ) (xs ys edges : List Born) (before now after : List Block) → AddsRows n every since xs edges before now → AddsRows n every since ys edges now after → AddsRows n every since (xs ++ ys) edges before after
+firsts_both n every since xs ys edges before now after f h a w = (
+    λ g. either
+      (λ (g : Gives now a w). either (λ (o : Gives before a w). inl o) (λ (p : (b : Born) × Contains xs b × Counts every since b × JoinsTo n b.edge.label (row_of b.edge.dst.0 edges) a w). inr (p.0, Contains-append_left xs ys p.0 p.1, p.2, p.3)) ((f a w).0 g))
+      (λ (p : (b : Born) × Contains ys b × Counts every since b × JoinsTo n b.edge.label (row_of b.edge.dst.0 edges) a w). inr (p.0, Contains-append_right xs ys p.0 p.1, p.2, p.3))
+      ((h a w).0 g),
+    λ o. either
+      (λ (g : Gives before a w). (h a w).1 (inl ((f a w).1 (inl g))))
+      (λ (p : (b : Born) × Contains (xs ++ ys) b × Counts every since b × JoinsTo n b.edge.label (row_of b.edge.dst.0 edges) a w).
+        either
+        (λ (m : Contains xs p.0). (h a w).1 (inl ((f a w).1 (inr (p.0, m, p.2, p.3)))))
+        (λ (m : Contains ys p.0). (h a w).1 (inr (p.0, m, p.2, p.3)))
+        (Contains-append_cases xs ys p.0 p.1))
+      o,
+)
+
+pub firsts_run : (n : Normal) (every : Bool) (since : ℕ) (firsts edges : List Born) (i j : ℕ) (before now after : List Block) → i ≤ j → AddsRows n every since (take i firsts) edges before now → AddsRows n every since (take (j - i) (drop i firsts)) edges now after → AddsRows n every since (take j firsts) edges before after
+firsts_run n every since firsts edges i j before now after le f h = subst (λ (r : List Born). AddsRows n every since r edges before after) (front_grows firsts i j le) (firsts_both n every since (take i firsts) (take (j - i) (drop i firsts)) edges before now after f h)
+
+-- no label joins behind the label of the first edges
+pub firsts_idle : (n : Normal) (every : Bool) (since : ℕ) (firsts edges : List Born) (label : LabelId) (labels : List LabelId) (blocks : List Block) → All (λ b. b.edge.label ≡ label) firsts → AreSeconds n label labels → labels ≡ [] → AddsRows n every since firsts edges blocks blocks
+firsts_idle n every since firsts edges label labels blocks all are nil a w = (
+    λ g. inl g,
+    λ o. either (λ (g : Gives blocks a w). g) (λ (p : (b : Born) × Contains firsts b × Counts every since b × JoinsTo n b.edge.label (row_of b.edge.dst.0 edges) a w). absurd (never p.0 p.1 p.3.0 p.3.2)) o,
+)
+  where
+    never : (b : Born) → Contains firsts b → (c : Born) → Joins n b.edge.label c.edge.label a → ⊥
+    never b m c j =
+        let e : b.edge.label ≡ label = All-contains (λ (x : Born). x.edge.label ≡ label) firsts b all m in
+        let r : Contains [] c.edge.label = subst (λ (l : List LabelId). Contains l c.edge.label) nil (are c.edge.label a (subst (λ (l : LabelId). Joins n l c.edge.label a) e j)) in
+        let l : r.0 < 0 = r.1 in
+        omega arith
 
 pub first_counts : (n : Normal) (every : Bool) (since : ℕ) (b : Born) (edges : List Born) (before after : List Block) → Counts every since b → AddsJoins n b.edge.label (row_of b.edge.dst.0 edges) before after → AddsFirst n every since b edges before after
 first_counts n every since b edges before after counts h a w = (
@@ -257,3 +391,11 @@ gives_for n edges newer since u row newer_row start first second nil new is_newe
     gives_joins n edges since u first second
     (subst (λ (l : List Block). AddsRows n true since (row_of u.0 (newer_edges since edges)) edges l first) nil (subst (λ (r : List Born). AddsRows n true since r edges start first) (is_newer_row ∙ ap (λ (l : List Born). row_of u.0 l) new) f))
     (subst (λ (l : List Born). AddsRows n false since (row_of u.0 edges) l first second) new (subst (λ (r : List Born). AddsRows n false since r newer first second) is_row s))
+
+-- what a test for emptiness says
+pub is_nil : {X : Type 0} (b : Bool) (xs : List X) → b ≡ (length xs == 0) → b ≡ true → xs ≡ []
+is_nil b [] e h = refl
+is_nil b (x ∷ xs) e h = absurd (never (length xs) (sym e ∙ h))
+  where
+    never : (k : ℕ) → (suc k == 0) ≡ true → ⊥
+    never k h = grind (arith, nat_tests, h)

@@ -1,5 +1,5 @@
 -- The joins of a round, row after row.
-use Rattle.std.specs.Prelude.{◌≡◌, ℕ, ◌+◌, ◌<◌, ◌≤◌, ◌⊎◌, ◌↔◌, eqb, Bool, false, true, List, ◌++◌, All, AllPairs, Contains}
+use Rattle.std.specs.Prelude.{◌≡◌, ℕ, ◌+◌, ◌<◌, ◌≤◌, ◌⊎◌, ◌↔◌, eqb, Bool, false, true, length, slice_index_or, List, ◌++◌, All, AllPairs, Contains}
 use Rattle.std.specs.List.{IsDistinct}
 use Rattle.graph_words.specs.declared.types.Vertex.{Vertex}
 use Rattle.graph_words.specs.declared.types.LabelId.{LabelId}
@@ -51,6 +51,21 @@ Gives blocks a w = (k : Block) × Contains blocks k × (k.label ≡ a) × ((c : 
 -- the blocks give what they gave, and what the first label joins to with the row
 abbrev pub AddsJoins : Normal → LabelId → List Born → List Block → List Block → Type 0
 AddsJoins n first row before after = (a : LabelId) (w : Vertex) → Gives after a w ↔ (Gives before a w ⊎ JoinsTo n first row a w)
+
+-- each label that joins to some label behind the first one is among these
+abbrev pub AreSeconds : Normal → LabelId → List LabelId → Type 0
+AreSeconds n first labels = (c a : LabelId) → Joins n first c a → Contains labels c
+
+-- the blocks give what they gave, and what the first label joins to with the edges of the row that have a second label
+abbrev pub AddsSecond : Normal → LabelId → List Born → LabelId → List Block → List Block → Type 0
+AddsSecond n first row label before after = (a : LabelId) (w : Vertex)
+    → Gives after a w ↔ (Gives before a w ⊎ ((c : Born) × Contains row c × (c.edge.label ≡ label) × Joins n first c.edge.label a × (c.edge.dst ≡ w)))
+
+-- the first n edges of the row have labels below a number, and the others don't
+pub record PartsLabels (row : List Born) (from n : ℕ) : Type 0 where
+  pub within : n ≤ length row
+  pub before : (k : ℕ) (d : Born) → k < n → (slice_index_or row k d).edge.label.0 < from
+  pub behind : (k : ℕ) (d : Born) → n ≤ k → k < length row → from ≤ (slice_index_or row k d).edge.label.0
 
 -- a first edge that counts: each, or each that is born before since
 abbrev pub Counts : Bool → ℕ → Born → Type 0

@@ -11,7 +11,7 @@ use crate::blocks::{Block, add_row};
 use crate::rows::{Rows, born_since};
 use crate::sieve::Sieve;
 use crate::span::Span;
-use graph_words::{Born, Edge, EdgeList, Vertex};
+use graph_words::{Born, Edge, EdgeList, LabelId, Vertex};
 use normal_form::Normal;
 use std::alloc::AllocError;
 
@@ -30,6 +30,7 @@ struct Centre<'a> {
 fn add_in_edge<'a>(
     centre: &Centre<'a>,
     first: Born,
+    labels: &mut Vec<LabelId>,
     blocks: &mut Vec<Block<'a>>,
 ) -> Result<(), AllocError>
     requires row { LabelsAscend centre.now.row.now }
@@ -39,11 +40,13 @@ fn add_in_edge<'a>(
     if first.edge.dst.0 != centre.vertex.0 {
         return Ok(());
     }
+    labels.clear();
+    centre.normal.seconds(first.edge.label, labels)?;
     if first.birth < centre.since {
-        add_row(centre.normal, first.edge.label, centre.newer, blocks)?;
+        add_row(centre.normal, first.edge.label, labels, centre.newer, blocks)?;
         return Ok(());
     }
-    add_row(centre.normal, first.edge.label, centre.row, blocks)?;
+    add_row(centre.normal, first.edge.label, labels, centre.row, blocks)?;
     Ok(())
 }
 
@@ -51,6 +54,7 @@ fn add_in_edge<'a>(
 fn add_in_edges<'a>(
     centre: &Centre<'a>,
     firsts: &[Born],
+    labels: &mut Vec<LabelId>,
     blocks: &mut Vec<Block<'a>>,
 ) -> Result<(), AllocError>
     requires row { LabelsAscend centre.now.row.now }
@@ -58,7 +62,7 @@ fn add_in_edges<'a>(
     ensures { OnOk result (AddsThrough (normal_form centre.now.normal.now) centre.now.since centre.now.vertex centre.now.row.now centre.now.newer.now firsts.now blocks.old.items blocks.new.items) }
 {
     for first in firsts {
-        add_in_edge(centre, *first, blocks)?;
+        add_in_edge(centre, *first, labels, blocks)?;
     }
     Ok(())
 }
@@ -67,6 +71,7 @@ fn add_in_edges<'a>(
 fn join_through<'a>(
     centre: &Centre<'a>,
     vertex: Vertex,
+    labels: &mut Vec<LabelId>,
     blocks: &mut Vec<Block<'a>>,
     sieve: &mut Sieve,
     out: &mut Vec<Edge>,
@@ -77,7 +82,7 @@ fn join_through<'a>(
 {
     let row = centre.rows.row(vertex.0);
     blocks.clear();
-    add_in_edges(centre, row, blocks)?;
+    add_in_edges(centre, row, labels, blocks)?;
     sieve.join_row(vertex, row, blocks, out)?;
     Ok(())
 }
@@ -86,6 +91,7 @@ fn join_through<'a>(
 fn join_span_through<'a>(
     centre: &Centre<'a>,
     span: Span,
+    labels: &mut Vec<LabelId>,
     blocks: &mut Vec<Block<'a>>,
     sieve: &mut Sieve,
     out: &mut Vec<Edge>,
@@ -96,7 +102,7 @@ fn join_span_through<'a>(
     ensures { OnOk result (AppendsJoins centre.now.rows.now.edges (IsCandidate (normal_form centre.now.normal.now) centre.now.rows.now.edges centre.now.since centre.now.vertex) (LiesIn span) out.old.items out.new.items) }
 {
     for vertex in span.lo..span.hi {
-        join_through(centre, Vertex(vertex), blocks, sieve, out)?;
+        join_through(centre, Vertex(vertex), labels, blocks, sieve, out)?;
     }
     Ok(())
 }
@@ -105,6 +111,7 @@ fn join_span_through<'a>(
 fn join_high_through<'a>(
     centre: &Centre<'a>,
     high: Option<Span>,
+    labels: &mut Vec<LabelId>,
     blocks: &mut Vec<Block<'a>>,
     sieve: &mut Sieve,
     out: &mut Vec<Edge>,
@@ -117,7 +124,7 @@ fn join_high_through<'a>(
     match high {
         None => Ok(()),
         Some(span) => {
-            join_span_through(centre, span, blocks, sieve, out)?;
+            join_span_through(centre, span, labels, blocks, sieve, out)?;
             Ok(())
         }
     }
@@ -144,12 +151,27 @@ impl Rows {
             since,
             vertex,
         };
+        let mut labels = Vec::new(alloc);
         let mut blocks = Vec::new(alloc);
         let mut sieve = Sieve::new(alloc);
         let mut out = Vec::new(alloc);
         let (low, high) = self.spans();
-        join_span_through(&centre, low, &mut blocks, &mut sieve, &mut out)?;
-        join_high_through(&centre, high, &mut blocks, &mut sieve, &mut out)?;
+        join_span_through(
+            &centre,
+            low,
+            &mut labels,
+            &mut blocks,
+            &mut sieve,
+            &mut out,
+        )?;
+        join_high_through(
+            &centre,
+            high,
+            &mut labels,
+            &mut blocks,
+            &mut sieve,
+            &mut out,
+        )?;
         Ok(EdgeList::from_vec(out))
     }
 

@@ -9,7 +9,7 @@ use crate::blocks::{Block, set_blocks};
 use crate::rows::Rows;
 use crate::sieve::Sieve;
 use crate::span::Span;
-use graph_words::{Edge, EdgeList, Vertex};
+use graph_words::{Edge, EdgeList, LabelId, Vertex};
 use normal_form::Normal;
 use std::alloc::{AllocError, Global};
 
@@ -26,6 +26,7 @@ struct Snapshot<'a> {
 fn join_vertex<'a>(
     snapshot: &Snapshot<'a>,
     vertex: Vertex,
+    labels: &mut Vec<LabelId>,
     blocks: &mut Vec<Block<'a>>,
     sieve: &mut Sieve,
     out: &mut Vec<Edge>,
@@ -39,6 +40,7 @@ fn join_vertex<'a>(
         snapshot.newer,
         snapshot.since,
         vertex,
+        labels,
         blocks,
     )?;
     sieve.join_row(vertex, snapshot.rows.row(vertex.0), blocks, out)?;
@@ -49,6 +51,7 @@ fn join_vertex<'a>(
 fn join_span<'a>(
     snapshot: &Snapshot<'a>,
     span: Span,
+    labels: &mut Vec<LabelId>,
     blocks: &mut Vec<Block<'a>>,
     sieve: &mut Sieve,
     out: &mut Vec<Edge>,
@@ -58,7 +61,7 @@ fn join_span<'a>(
     ensures { OnOk result (AppendsJoins snapshot.now.rows.now.edges (IsJoinOf (normal_form snapshot.now.normal.now) snapshot.now.rows.now.edges snapshot.now.since) (LiesIn span) out.old.items out.new.items) }
 {
     for vertex in span.lo..span.hi {
-        join_vertex(snapshot, Vertex(vertex), blocks, sieve, out)?;
+        join_vertex(snapshot, Vertex(vertex), labels, blocks, sieve, out)?;
     }
     Ok(())
 }
@@ -67,6 +70,7 @@ fn join_span<'a>(
 fn join_high<'a>(
     snapshot: &Snapshot<'a>,
     high: Option<Span>,
+    labels: &mut Vec<LabelId>,
     blocks: &mut Vec<Block<'a>>,
     sieve: &mut Sieve,
     out: &mut Vec<Edge>,
@@ -78,7 +82,7 @@ fn join_high<'a>(
     match high {
         None => Ok(()),
         Some(span) => {
-            join_span(snapshot, span, blocks, sieve, out)?;
+            join_span(snapshot, span, labels, blocks, sieve, out)?;
             Ok(())
         }
     }
@@ -105,12 +109,27 @@ impl Rows {
             normal,
             since,
         };
+        let mut labels = Vec::new(alloc);
         let mut blocks = Vec::new(alloc);
         let mut sieve = Sieve::new(alloc);
         let mut out = Vec::new(alloc);
         let (low, high) = self.spans();
-        join_span(&snapshot, low, &mut blocks, &mut sieve, &mut out)?;
-        join_high(&snapshot, high, &mut blocks, &mut sieve, &mut out)?;
+        join_span(
+            &snapshot,
+            low,
+            &mut labels,
+            &mut blocks,
+            &mut sieve,
+            &mut out,
+        )?;
+        join_high(
+            &snapshot,
+            high,
+            &mut labels,
+            &mut blocks,
+            &mut sieve,
+            &mut out,
+        )?;
         Ok(EdgeList::from_vec(out))
     }
 }
