@@ -1,18 +1,17 @@
 -- Centres, vertex after vertex.
-use Rattle.std.proofs.Common.{◌≡◌, ◌↔◌, ℕ, suc, ◌+◌, ◌<◌, ◌≤◌, ◌⊎◌, Bool, true, false, not, Option, Some, None, List, [], ◌∷◌, ◌++◌, length, get_or, refl, sym, ap, subst, ◌∙◌, append_assoc, arith, inl, inr}
-use Rattle.std.specs.Prelude.{All, AllPairs, Contains, ◌==◌}
+use Rattle.std.proofs.Common.{◌≡◌, ℕ, suc, ◌+◌, ◌<◌, ◌≤◌, ◌⊎◌, Bool, true, false, not, List, [], ◌∷◌, ◌++◌, length, get_or, refl, sym, ap, subst, ◌∙◌, append_assoc, arith, inl, inr}
+use Rattle.std.specs.Prelude.{Contains, ◌==◌}
 use Rattle.std.proofs.lemmas.Bool.{cases_lt, false≢true}
 use Rattle.std.proofs.lemmas.Bool.Decides.{nat_tests}
 use Rattle.std.proofs.lemmas.List.{append-nil}
-use Rattle.std.proofs.lemmas.List.Elements.{All-append, All-contains, All-weaker, All-nil, All-push, Contains-append_left, Contains-append_right, Contains-push, Contains-get_or}
+use Rattle.std.proofs.lemmas.List.Elements.{All-append, All-contains, All-weaker, All-nil, All-push, Contains-append_left, Contains-append_right, Contains-get_or}
 use Rattle.graph_words.specs.declared.types.Vertex.{Vertex}
 use Rattle.graph_words.specs.declared.types.Born.{Born}
 use Rattle.closing_machine.proofs.Members.{either}
 use Rattle.partition_file.specs.Spelling.{row_of}
-use Rattle.row_table.specs.declared.span.Span.{Span}
 use Rattle.row_table.specs.Loaded.{Loaded, IsLoaded, IsRow, IsCentre, AreCentres, LiesIn, LiesInHigh}
 use Rattle.row_table.specs.Sieve.{HasVertex, IsEmptySet}
-use Rattle.row_table.specs.Joined.{CentresWhere, AppendsCentres, IsEndSet, EndsHere, MarksEnds, vertex}
+use Rattle.row_table.specs.Joined.{AppendsCentres, IsEndSet, EndsHere, MarksEnds, vertex}
 use Rattle.row_table.proofs.SearchLemmas.{from_row, in_its_row}
 use Rattle.row_table.proofs.RowLemmas.{some_born}
 use Rattle.row_table.proofs.JoinLemmas.{pairs_append, same_vertex, spans_behind}
@@ -89,11 +88,11 @@ pub all_centres : (l : Loaded) (mid end : List Vertex) → IsLoaded l → Append
 all_centres l mid end h f g =
     let b = centres_both l.edges (LiesIn l.low) (LiesInHigh l.high) (IsRow l) (λ v r. r) (λ v o. o) (spans_behind l h) [] mid end f g in
     rw b.behind (
-      record {
-        all = λ x y mx my e. b.are.all x y mx my e (subst (λ (v : Vertex). IsRow l v.0) (sym e) (All-contains (λ (z : Born). IsRow l z.edge.src.0) l.edges y h.sources my));
-        only = All-weaker (λ (v : Vertex). IsCentre l.edges v × IsRow l v.0) (IsCentre l.edges) (λ v p. p.0) b.new b.are.only;
-        ascending = b.are.ascending;
-      })
+    record {
+      all = λ x y mx my e. b.are.all x y mx my e (subst (λ (v : Vertex). IsRow l v.0) (sym e) (All-contains (λ (z : Born). IsRow l z.edge.src.0) l.edges y h.sources my));
+      only = All-weaker (λ (v : Vertex). IsCentre l.edges v × IsRow l v.0) (IsCentre l.edges) (λ v p. p.0) b.new b.are.only;
+      ascending = b.are.ascending;
+    })
 
 -- what the test for an empty row says
 pub some_there : (b : Bool) (xs ys : List Born) → b ≡ (length xs == 0) → xs ≡ ys → not b ≡ true → 0 < length ys

@@ -1,13 +1,13 @@
 -- The joins of a vertex, label after label, and those of a round, vertex after vertex.
-use Rattle.std.proofs.Common.{◌≡◌, ◌≢◌, ◌↔◌, ℕ, suc, ◌+◌, ◌-◌, ◌<◌, ◌≤◌, ◌⊎◌, Bool, true, false, eqb, Option, Some, None, List, [], ◌∷◌, ◌++◌, length, get_or, take, drop, map, refl, sym, ap, subst, ◌∙◌, append_assoc, arith, inl, inr}
+use Rattle.std.proofs.Common.{◌≡◌, ℕ, suc, ◌+◌, ◌<◌, ◌≤◌, ◌⊎◌, Bool, eqb, Option, Some, None, List, [], ◌∷◌, ◌++◌, length, map, refl, sym, ap, subst, ◌∙◌, append_assoc, arith, inl, inr}
 use Rattle.std.specs.Prelude.{All, AllPairs, Contains}
 use Rattle.std.specs.List.{IsDistinct}
-use Rattle.std.specs.List.Sorted.{IsPermutation, IsNonDecreasingBy, IsSorted}
+use Rattle.std.specs.List.Sorted.{IsPermutation, IsSorted}
 use Rattle.std.specs.Ordering.{nat_cmp}
-use Rattle.std.proofs.lemmas.Bool.{cases_lt, cases_eq, false≢true}
-use Rattle.std.proofs.lemmas.List.{length-map, get_or-map, append-nil, take_all}
-use Rattle.std.proofs.lemmas.List.Elements.{All-append, All-contains, All-weaker, All-map, All-nil, Contains-append_left, Contains-append_right, Contains-append_cases}
-use Rattle.std.proofs.lemmas.List.Sorted.{All-permutation, Contains-permutation, IsPermutation-sym, IsNonDecreasingBy-from_sort}
+use Rattle.std.proofs.lemmas.Bool.{cases_lt}
+use Rattle.std.proofs.lemmas.List.{length-map, get_or-map, append-nil}
+use Rattle.std.proofs.lemmas.List.Elements.{All-append, All-contains, All-weaker, All-map, All-nil, Contains-append_left, Contains-append_right}
+use Rattle.std.proofs.lemmas.List.Sorted.{Contains-permutation, IsPermutation-sym, IsNonDecreasingBy-from_sort}
 use Rattle.std.proofs.lemmas.List.Kept.{AllPairs-cons, AllPairs-from_increasing}
 use Rattle.std.proofs.lemmas.Map.Keys.{IsDistinct-IsPermutation, IsStrictlyIncreasing-from_distinct}
 use Rattle.std.proofs.lemmas.Cmp.{nat_eq_equiv}
@@ -18,10 +18,9 @@ use Rattle.graph_words.specs.declared.types.Born.{Born}
 use Rattle.graph_words.specs.Reach.{IsBefore, IsAscending, edge}
 use Rattle.normal_law.specs.Closure.{Normal}
 use Rattle.partition_file.specs.Spelling.{row_of}
-use Rattle.closing_machine.specs.Rounds.{IsCandidate, IsOrdered, IsRound, HasEdge, born}
+use Rattle.closing_machine.specs.Rounds.{IsCandidate, IsRound, HasEdge, born}
 use Rattle.closing_machine.specs.JoinsAt.{IsJoinsAt}
 use Rattle.closing_machine.proofs.Members.{either, All-from_members}
-use Rattle.closing_machine.proofs.Ordered.{before_one_way, ahead, rest, front, behind, first_or_later}
 use Rattle.row_table.specs.declared.blocks.Block.{Block}
 use Rattle.row_table.specs.declared.span.Span.{Span}
 use Rattle.row_table.specs.Loaded.{Loaded, IsLoaded, IsRow, IsBehind, LiesIn, LiesInHigh}
@@ -145,9 +144,9 @@ module _ (row : List Born) (u : Vertex) (blocks : List Block) where
           | inr ge ↦ elim (cases_lt k b.0) [
             | inl more ↦ absurd (either (λ (x : g.0.label.0 < k + 1). let e : g.0.label.0 ≡ b.0 = ap (λ (y : LabelId). y.0) g.2 in let z : g.0.label.0 < k + 1 = x in omega arith) (λ (x : (next ≤ g.0.label.0) × (g.0.label.0 < 65536)). let e : g.0.label.0 ≡ b.0 = ap (λ (y : LabelId). y.0) g.2 in omega (arith, x.0)) (All-contains (λ (x : Block). (x.label.0 < k + 1) ⊎ ((next ≤ x.label.0) × (x.label.0 < 65536))) blocks g.0 n.none g.1))
             | inr le ↦ (
-              let same : a ≡ b = same_label a b (omega arith) in
-              subst (λ (x : LabelId). HasEdge row (edge u x w) ⊎ Contains both (edge u x w)) same
-              (either (λ (h : HasEdge row (edge u a w)). inl h) (λ (m : Contains l.new (edge u a w)). inr (Contains-append_right f.new l.new (edge u a w) m)) (l.are.all w (subst (λ (x : LabelId). Gives blocks x w) (sym same) g))))
+                let same : a ≡ b = same_label a b (omega arith) in
+                subst (λ (x : LabelId). HasEdge row (edge u x w) ⊎ Contains both (edge u x w)) same
+                (either (λ (h : HasEdge row (edge u a w)). inl h) (λ (m : Contains l.new (edge u a w)). inr (Contains-append_right f.new l.new (edge u a w) m)) (l.are.all w (subst (λ (x : LabelId). Gives blocks x w) (sym same) g))))
           ]
         ]
 

@@ -1,19 +1,18 @@
 -- What joins through a centre.
-use Rattle.std.proofs.Common.{◌≡◌, ◌≢◌, ◌↔◌, ℕ, ◌+◌, ◌<◌, ◌≤◌, ◌⊎◌, List, [], ◌∷◌, ◌++◌, length, get_or, take, refl, sym, ap, subst, ◌∙◌, arith, inl, inr}
-use Rattle.std.specs.Prelude.{All, Contains}
+use Rattle.std.proofs.Common.{◌≡◌, ◌≢◌, ℕ, ◌+◌, ◌<◌, ◌≤◌, ◌⊎◌, List, [], ◌∷◌, length, get_or, take, sym, ap, subst, ◌∙◌, arith, inl, inr}
+use Rattle.std.specs.Prelude.{Contains}
 use Rattle.std.proofs.lemmas.Bool.{cases_lt}
 use Rattle.std.proofs.lemmas.List.{take_more}
 use Rattle.std.proofs.lemmas.List.Elements.{Contains-append_left, Contains-push, Contains-push_cases}
 use Rattle.std.proofs.lemmas.List.Kept.{AllPairs-filter}
 use Rattle.graph_words.specs.declared.types.Vertex.{Vertex}
 use Rattle.graph_words.specs.declared.types.LabelId.{LabelId}
-use Rattle.graph_words.specs.declared.types.Edge.{Edge}
 use Rattle.graph_words.specs.declared.types.Born.{Born}
 use Rattle.graph_words.specs.Reach.{edge}
 use Rattle.normal_law.specs.Closure.{Normal}
 use Rattle.normal_law.specs.Closed.{Joins}
 use Rattle.partition_file.specs.Spelling.{row_of}
-use Rattle.closing_machine.specs.Rounds.{IsCandidate, IsOrdered}
+use Rattle.closing_machine.specs.Rounds.{IsCandidate}
 use Rattle.closing_machine.proofs.Members.{either}
 use Rattle.row_table.specs.declared.blocks.Block.{Block}
 use Rattle.row_table.specs.Loaded.{newer_edges}
@@ -31,14 +30,14 @@ module _ (n : Normal) (since : ℕ) (x : Vertex) (row newer : List Born) where
 
   pub new_through : (b : Born) (before after : List Block) → b.edge.dst.0 ≡ x.0 → since ≤ b.birth → AddsJoins n b.edge.label row before after → AddsThroughOne n since x row newer b before after
   new_through b before after e new h a w = (
-      λ g. either (λ (o : Gives before a w). inl o) (λ (j : JoinsTo n b.edge.label row a w). inr (same_vertex b.edge.dst x e, inl (new, j))) ((h a w).0 g),
-      λ o. either (λ (g : Gives before a w). (h a w).1 (inl g)) (λ (t : Through n since x row newer b a w). (h a w).1 (inr (either (λ (p : (since ≤ b.birth) × JoinsTo n b.edge.label row a w). p.1) (λ (p : (b.birth < since) × JoinsTo n b.edge.label newer a w). absurd (omega (arith, p.0))) t.1))) o,
+    λ g. either (λ (o : Gives before a w). inl o) (λ (j : JoinsTo n b.edge.label row a w). inr (same_vertex b.edge.dst x e, inl (new, j))) ((h a w).0 g),
+    λ o. either (λ (g : Gives before a w). (h a w).1 (inl g)) (λ (t : Through n since x row newer b a w). (h a w).1 (inr (either (λ (p : (since ≤ b.birth) × JoinsTo n b.edge.label row a w). p.1) (λ (p : (b.birth < since) × JoinsTo n b.edge.label newer a w). absurd (omega (arith, p.0))) t.1))) o,
   )
 
   pub old_through : (b : Born) (before after : List Block) → b.edge.dst.0 ≡ x.0 → b.birth < since → AddsJoins n b.edge.label newer before after → AddsThroughOne n since x row newer b before after
   old_through b before after e old h a w = (
-      λ g. either (λ (o : Gives before a w). inl o) (λ (j : JoinsTo n b.edge.label newer a w). inr (same_vertex b.edge.dst x e, inr (old, j))) ((h a w).0 g),
-      λ o. either (λ (g : Gives before a w). (h a w).1 (inl g)) (λ (t : Through n since x row newer b a w). (h a w).1 (inr (either (λ (p : (since ≤ b.birth) × JoinsTo n b.edge.label row a w). absurd (omega (arith, p.0))) (λ (p : (b.birth < since) × JoinsTo n b.edge.label newer a w). p.1) t.1))) o,
+    λ g. either (λ (o : Gives before a w). inl o) (λ (j : JoinsTo n b.edge.label newer a w). inr (same_vertex b.edge.dst x e, inr (old, j))) ((h a w).0 g),
+    λ o. either (λ (g : Gives before a w). (h a w).1 (inl g)) (λ (t : Through n since x row newer b a w). (h a w).1 (inr (either (λ (p : (since ≤ b.birth) × JoinsTo n b.edge.label row a w). absurd (omega (arith, p.0))) (λ (p : (b.birth < since) × JoinsTo n b.edge.label newer a w). p.1) t.1))) o,
   )
 
   pub through_none : (blocks : List Block) → AddsThrough n since x row newer [] blocks blocks
@@ -46,17 +45,17 @@ module _ (n : Normal) (since : ℕ) (x : Vertex) (row newer : List Born) where
 
   pub through_more : (firsts : List Born) (i : ℕ) (d : Born) (before now after : List Block) → i < length firsts → AddsThrough n since x row newer (take i firsts) before now → AddsThroughOne n since x row newer (get_or firsts i d) now after → AddsThrough n since x row newer (take (i + 1) firsts) before after
   through_more firsts i d before now after lt f h a w = (
-      λ g. either
+    λ g. either
         (λ (g : Gives now a w). either (λ (o : Gives before a w). inl o) (λ (p : (b : Born) × Contains (take i firsts) b × Through n since x row newer b a w). inr (p.0, rw (take_more firsts i d lt) (Contains-append_left (take i firsts) (get_or firsts i d ∷ []) p.0 p.1), p.2)) ((f a w).0 g))
         (λ (t : Through n since x row newer (get_or firsts i d) a w). inr (get_or firsts i d, rw (take_more firsts i d lt) (Contains-push (take i firsts) (get_or firsts i d)), t))
         ((h a w).0 g),
-      λ o. either
+    λ o. either
         (λ (g : Gives before a w). (h a w).1 (inl ((f a w).1 (inl g))))
         (λ (p : (b : Born) × Contains (take (i + 1) firsts) b × Through n since x row newer b a w).
-          either
-          (λ (m : Contains (take i firsts) p.0). (h a w).1 (inl ((f a w).1 (inr (p.0, m, p.2)))))
-          (λ (s : get_or firsts i d ≡ p.0). (h a w).1 (inr (subst (λ (b : Born). Through n since x row newer b a w) (sym s) p.2)))
-          (Contains-push_cases (take i firsts) (get_or firsts i d) p.0 (rw (take_more firsts i d lt) at p.1)))
+        either
+        (λ (m : Contains (take i firsts) p.0). (h a w).1 (inl ((f a w).1 (inr (p.0, m, p.2)))))
+        (λ (s : get_or firsts i d ≡ p.0). (h a w).1 (inr (subst (λ (b : Born). Through n since x row newer b a w) (sym s) p.2)))
+        (Contains-push_cases (take i firsts) (get_or firsts i d) p.0 (rw (take_more firsts i d lt) at p.1)))
         o,
   )
 
@@ -81,12 +80,12 @@ module _ (n : Normal) (edges : List Born) (since : ℕ) (x u : Vertex) where
         either
         (λ (o : Gives [] a w). absurd (let l : o.1.0 < 0 = o.1.1 in omega arith))
         (λ (p : (b : Born) × Contains (row_of u.0 edges) b × Through n since x (row_of x.0 edges) (newer_edges since (row_of x.0 edges)) b a w).
-          either
-          (λ (q : (since ≤ p.0.birth) × JoinsTo n p.0.edge.label (row_of x.0 edges) a w). candidate a w p.0 q.1.0 p.1 p.2.0 q.1.1 q.1.2 q.1.3 (inl q.0))
-          (λ (q : (p.0.birth < since) × JoinsTo n p.0.edge.label (newer_edges since (row_of x.0 edges)) a w).
-            let new = is_newer since (row_of x.0 edges) q.1.0 q.1.1 in
-            candidate a w p.0 q.1.0 p.1 p.2.0 new.0 q.1.2 q.1.3 (inr new.1))
-          p.2.1)
+        either
+        (λ (q : (since ≤ p.0.birth) × JoinsTo n p.0.edge.label (row_of x.0 edges) a w). candidate a w p.0 q.1.0 p.1 p.2.0 q.1.1 q.1.2 q.1.3 (inl q.0))
+        (λ (q : (p.0.birth < since) × JoinsTo n p.0.edge.label (newer_edges since (row_of x.0 edges)) a w).
+        let new = is_newer since (row_of x.0 edges) q.1.0 q.1.1 in
+        candidate a w p.0 q.1.0 p.1 p.2.0 new.0 q.1.2 q.1.3 (inr new.1))
+        p.2.1)
         ((t a w).0 g)
 
     back : (a : LabelId) (w : Vertex) → IsCandidate n edges since x (edge u a w) → Gives blocks a w
@@ -99,8 +98,8 @@ module _ (n : Normal) (edges : List Born) (since : ℕ) (x u : Vertex) where
         let md = in_its_row edges d x.0 sd c.has_second in
         elim (cases_lt b.birth since) [
           | inl lt ↦ (
-            let new : since ≤ d.birth = either (λ (l : since ≤ b.birth). absurd (omega arith)) (λ (l : since ≤ d.birth). l) c.one_new in
-            (t a w).1 (inr (b, mb, (c.centre, inr (lt, (d, newer_has since (row_of x.0 edges) d md new, c.join.label, sym c.join.destination))))))
+              let new : since ≤ d.birth = either (λ (l : since ≤ b.birth). absurd (omega arith)) (λ (l : since ≤ d.birth). l) c.one_new in
+              (t a w).1 (inr (b, mb, (c.centre, inr (lt, (d, newer_has since (row_of x.0 edges) d md new, c.join.label, sym c.join.destination))))))
           | inr le ↦ (t a w).1 (inr (b, mb, (c.centre, inl (le, (d, md, c.join.label, sym c.join.destination)))))
         ]
 

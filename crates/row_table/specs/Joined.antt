@@ -1,5 +1,5 @@
 -- The joins of a round, row after row.
-use Rattle.std.specs.Prelude.{◌≡◌, ℕ, ◌+◌, ◌<◌, ◌≤◌, ◌⊎◌, ◌↔◌, eqb, Bool, false, true, length, slice_index_or, List, ◌++◌, All, AllPairs, Contains}
+use Rattle.std.specs.Prelude.{◌≡◌, ℕ, ◌<◌, ◌≤◌, ◌⊎◌, ◌↔◌, eqb, Bool, true, length, slice_index_or, List, ◌++◌, All, AllPairs, Contains}
 use Rattle.std.specs.List.{IsDistinct}
 use Rattle.graph_words.specs.declared.types.Vertex.{Vertex}
 use Rattle.graph_words.specs.declared.types.LabelId.{LabelId}
@@ -9,7 +9,7 @@ use Rattle.graph_words.specs.Reach.{IsAscending, edge}
 use Rattle.normal_law.specs.Closure.{Normal}
 use Rattle.normal_law.specs.Closed.{Joins}
 use Rattle.partition_file.specs.Spelling.{row_of}
-use Rattle.closing_machine.specs.Rounds.{IsCandidate, IsOrdered, HasEdge}
+use Rattle.closing_machine.specs.Rounds.{IsCandidate, HasEdge}
 use Rattle.row_table.specs.declared.blocks.Block.{Block}
 use Rattle.row_table.specs.Sieve.{HasVertex}
 use Rattle.row_table.specs.Loaded.{IsCentre}

@@ -157,6 +157,9 @@ fn add_first<'a>(
         return Ok(());
     }
     let row = seconds.rows.row(first.edge.dst.0);
+    if row.is_empty() {
+        return Ok(());
+    }
     add_row(seconds.normal, first.edge.label, labels, row, blocks)?;
     Ok(())
 }

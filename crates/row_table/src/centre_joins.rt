@@ -43,7 +43,13 @@ fn add_in_edge<'a>(
     labels.clear();
     centre.normal.seconds(first.edge.label, labels)?;
     if first.birth < centre.since {
-        add_row(centre.normal, first.edge.label, labels, centre.newer, blocks)?;
+        add_row(
+            centre.normal,
+            first.edge.label,
+            labels,
+            centre.newer,
+            blocks,
+        )?;
         return Ok(());
     }
     add_row(centre.normal, first.edge.label, labels, centre.row, blocks)?;
@@ -156,14 +162,7 @@ impl Rows {
         let mut sieve = Sieve::new(alloc);
         let mut out = Vec::new(alloc);
         let (low, high) = self.spans();
-        join_span_through(
-            &centre,
-            low,
-            &mut labels,
-            &mut blocks,
-            &mut sieve,
-            &mut out,
-        )?;
+        join_span_through(&centre, low, &mut labels, &mut blocks, &mut sieve, &mut out)?;
         join_high_through(
             &centre,
             high,

@@ -94,12 +94,7 @@ impl Rows {
     ///
     /// The round goes row by row, so that its edges come out in order: for each vertex, each new edge from there with
     /// the row of its end, and each old edge with the new edges of that row.
-    pub fn joins(
-        &self,
-        alloc: Global,
-        normal: &Normal,
-        since: u64,
-    ) -> Result<EdgeList, AllocError>
+    pub fn joins(&self, alloc: Global, normal: &Normal, since: u64) -> Result<EdgeList, AllocError>
         ensures { IfOk result (IsRound (normal_form normal.now) self.now.edges since) }
     {
         let newer = self.newer(since)?;

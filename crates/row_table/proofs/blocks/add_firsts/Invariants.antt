@@ -1,4 +1,4 @@
-use Rattle.std.proofs.Common.{◌≡◌, length, take}
+use Rattle.std.proofs.Common.{take}
 use Rattle.normal_law.specs.NormalForm.{normal_form}
 use Rattle.row_table.specs.Joined.{AddsRows}
 use Rattle.row_table.proofs.blocks.add_firsts.Given as goal

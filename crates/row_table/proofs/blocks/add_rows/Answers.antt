@@ -1,7 +1,7 @@
-use Rattle.std.proofs.Common.{◌≤◌, ◌<◌, length, arith}
+use Rattle.std.proofs.Common.{◌<◌, arith}
 use Rattle.std.proofs.lemmas.List.{take_all}
 use Rattle.normal_law.specs.NormalForm.{normal_form}
-use Rattle.row_table.proofs.BlockLemmas.{firsts_none, firsts_run}
+use Rattle.row_table.proofs.BlockLemmas.{firsts_run}
 use Rattle.row_table.proofs.blocks.add_rows.Goals as goal
 
 pub add_firsts_if-requires-clause-labels : goal.add_firsts_if-requires-clause-labels

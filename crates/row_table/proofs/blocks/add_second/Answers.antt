@@ -1,4 +1,4 @@
-use Rattle.std.proofs.Common.{◌≡◌, refl}
+use Rattle.std.proofs.Common.{◌≡◌}
 use Rattle.normal_law.specs.NormalForm.{normal_form}
 use Rattle.graph_words.specs.declared.types.Born.{Born}
 use Rattle.closing_machine.proofs.Members.{All-from_members}

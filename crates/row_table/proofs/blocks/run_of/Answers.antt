@@ -1,5 +1,3 @@
-use Rattle.std.proofs.Common.{◌≡◌, ◌+◌, subst}
-use Rattle.graph_words.specs.declared.types.Born.{Born}
 use Rattle.row_table.proofs.BlockLemmas.{places_in_order, in_run}
 use Rattle.row_table.proofs.blocks.run_of.Goals as goal
 

@@ -1,4 +1,4 @@
-use Rattle.std.proofs.Common.{◌≡◌, ap}
+use Rattle.std.proofs.Common.{ap}
 use Rattle.normal_law.specs.NormalForm.{normal_form}
 use Rattle.row_table.specs.Loaded.{Loaded}
 use Rattle.row_table.proofs.BlockLemmas.{gives_for, row_labels_of}

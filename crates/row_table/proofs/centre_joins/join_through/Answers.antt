@@ -1,4 +1,3 @@
-use Rattle.std.proofs.Common.{◌≡◌}
 use Rattle.normal_law.specs.NormalForm.{normal_form}
 use Rattle.closing_machine.specs.Rounds.{IsCandidate}
 use Rattle.row_table.proofs.BlockLemmas.{row_labels_of}

@@ -1,4 +1,4 @@
-use Rattle.std.proofs.Common.{◌≡◌, refl, sym, ap, ◌∙◌}
+use Rattle.std.proofs.Common.{refl, sym, ap, ◌∙◌}
 use Rattle.std.proofs.lemmas.Bool.{false≢true}
 use Rattle.graph_words.specs.declared.types.Vertex.{Vertex}
 use Rattle.row_table.proofs.CentreLemmas.{centres_none, centres_one}

@@ -1,4 +1,3 @@
-use Rattle.row_table.proofs.CentreLemmas.{centres_none}
 use Rattle.row_table.proofs.centres.add_high_centres.Goals as goal
 
 pub returns-in_ok-add_centres-in-Some : goal.returns-in_ok-add_centres-in-Some

@@ -1,4 +1,4 @@
-use Rattle.std.proofs.Common.{◌≡◌, ℕ, ◌<◌, Bool, true, not, length, arith, refl, sym, ap, ◌∙◌}
+use Rattle.std.proofs.Common.{refl}
 use Rattle.row_table.proofs.CentreLemmas.{centre_is, centre_ends, centre_row, some_there, there_some}
 use Rattle.row_table.proofs.centres.is_centre.Goals as goal
 

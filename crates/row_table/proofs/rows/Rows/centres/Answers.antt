@@ -1,4 +1,4 @@
-use Rattle.row_table.proofs.CentreLemmas.{is_end_set, all_centres}
+use Rattle.row_table.proofs.CentreLemmas.{all_centres}
 use Rattle.row_table.proofs.rows.Rows.centres.Goals as goal
 
 pub returns : goal.returns

@@ -1,4 +1,3 @@
-use Rattle.std.proofs.Common.{◌≡◌}
 use Rattle.normal_law.specs.NormalForm.{normal_form}
 use Rattle.row_table.proofs.JoinLemmas.{all_joins_are_round}
 use Rattle.row_table.proofs.rows.Rows.joins.Goals as goal
