@@ -84,6 +84,16 @@ impl JoinRow {
         self.joins[place].labels.as_slice()
     }
 
+    /// Adds each second label to the list.
+    fn seconds(&self, out: &mut Vec<LabelId>) -> Result<(), AllocError>
+        ensures { OnOk result ((c a : ALabel) → HasJoin self.now c a → Contains out.new.items c) }
+    {
+        for join in &self.joins {
+            out.push(join.second)?;
+        }
+        Ok(())
+    }
+
     /// Adds the labels for this second label.
     fn add(&mut self, alloc: Global, second: LabelId, labels: &[LabelId]) -> Result<(), AllocError>
         ensures { OnOk result (AddsJoins self.old self.new second labels.now) }
@@ -138,6 +148,17 @@ impl JoinTable {
             return &[];
         }
         self.rows[first.0 as usize].labels_of(second)
+    }
+
+    /// Adds each second label of the first one to the list.
+    pub(crate) fn seconds(&self, first: LabelId, out: &mut Vec<LabelId>) -> Result<(), AllocError>
+        ensures { OnOk result ((c a : ALabel) → HasJoinAt self.now first c a → Contains out.new.items c) }
+    {
+        if first.0 as usize >= self.rows.len() {
+            return Ok(());
+        }
+        self.rows[first.0 as usize].seconds(out)?;
+        Ok(())
     }
 
     /// Adds labels for the pair's two labels on the right.

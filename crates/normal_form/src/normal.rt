@@ -1,5 +1,5 @@
 //! The normal form of a grammar.
-ghost use Rattle.std.specs.Prelude.{◌≡◌, ◌↔◌, ℕ, ◌+◌, ◌<◌, ◌≤◌, All, Contains, IfOk, sum_by};
+ghost use Rattle.std.specs.Prelude.{◌≡◌, ◌↔◌, ℕ, ◌+◌, ◌<◌, ◌≤◌, All, Contains, IfOk, OnOk, sum_by};
 ghost use Rattle.graph_words.specs.declared.types.Vertex.{Vertex as AVertex};
 ghost use Rattle.graph_words.specs.declared.types.LabelId.{LabelId as ALabel};
 ghost use Rattle.graph_words.specs.Reach.{Graph, IsGraph, Reach};
@@ -82,6 +82,15 @@ impl Normal {
         ensures each { (a : ALabel) → Contains result.now a ↔ Joins (normal_form self.now) b c a }
     {
         self.joins.labels_of(b, c)
+    }
+
+    /// Adds to the list each label that joins to some label behind b, so that a search for joins need look for these
+    /// second labels alone.
+    pub fn seconds(&self, b: LabelId, out: &mut Vec<LabelId>) -> Result<(), AllocError>
+        ensures { OnOk result ((c a : ALabel) → Joins (normal_form self.now) b c a → Contains out.new.items c) }
+    {
+        self.joins.seconds(b, out)?;
+        Ok(())
     }
 
     /// The labels above a label, ascending: the least list with b that holds A wherever it holds B and `A B` is a rule.

@@ -1,13 +1,13 @@
 -- The joins of a vertex, label after label, and those of a round, vertex after vertex.
-use Rattle.std.proofs.Common.{◌≡◌, ◌≢◌, ◌↔◌, ℕ, suc, ◌+◌, ◌-◌, ◌<◌, ◌≤◌, ◌⊎◌, Bool, true, false, eqb, Option, Some, None, List, [], ◌∷◌, ◌++◌, length, get_or, take, drop, map, refl, sym, ap, subst, ◌∙◌, append_assoc, arith, inl, inr}
+use Rattle.std.proofs.Common.{◌≡◌, ℕ, suc, ◌+◌, ◌<◌, ◌≤◌, ◌⊎◌, Bool, eqb, Option, Some, None, List, [], ◌∷◌, ◌++◌, length, map, refl, sym, ap, subst, ◌∙◌, append_assoc, arith, inl, inr}
 use Rattle.std.specs.Prelude.{All, AllPairs, Contains}
 use Rattle.std.specs.List.{IsDistinct}
-use Rattle.std.specs.List.Sorted.{IsPermutation, IsNonDecreasingBy, IsSorted}
+use Rattle.std.specs.List.Sorted.{IsPermutation, IsSorted}
 use Rattle.std.specs.Ordering.{nat_cmp}
-use Rattle.std.proofs.lemmas.Bool.{cases_lt, cases_eq, false≢true}
-use Rattle.std.proofs.lemmas.List.{length-map, get_or-map, append-nil, take_all}
-use Rattle.std.proofs.lemmas.List.Elements.{All-append, All-contains, All-weaker, All-map, All-nil, Contains-append_left, Contains-append_right, Contains-append_cases}
-use Rattle.std.proofs.lemmas.List.Sorted.{All-permutation, Contains-permutation, IsPermutation-sym, IsNonDecreasingBy-from_sort}
+use Rattle.std.proofs.lemmas.Bool.{cases_lt}
+use Rattle.std.proofs.lemmas.List.{length-map, get_or-map, append-nil}
+use Rattle.std.proofs.lemmas.List.Elements.{All-append, All-contains, All-weaker, All-map, All-nil, Contains-append_left, Contains-append_right}
+use Rattle.std.proofs.lemmas.List.Sorted.{Contains-permutation, IsPermutation-sym, IsNonDecreasingBy-from_sort}
 use Rattle.std.proofs.lemmas.List.Kept.{AllPairs-cons, AllPairs-from_increasing}
 use Rattle.std.proofs.lemmas.Map.Keys.{IsDistinct-IsPermutation, IsStrictlyIncreasing-from_distinct}
 use Rattle.std.proofs.lemmas.Cmp.{nat_eq_equiv}
@@ -18,14 +18,14 @@ use Rattle.graph_words.specs.declared.types.Born.{Born}
 use Rattle.graph_words.specs.Reach.{IsBefore, IsAscending, edge}
 use Rattle.normal_law.specs.Closure.{Normal}
 use Rattle.partition_file.specs.Spelling.{row_of}
-use Rattle.closing_machine.specs.Rounds.{IsCandidate, IsOrdered, IsRound, HasEdge, born}
+use Rattle.closing_machine.specs.Rounds.{IsCandidate, IsRound, HasEdge, born}
+use Rattle.closing_machine.specs.JoinsAt.{IsJoinsAt}
 use Rattle.closing_machine.proofs.Members.{either, All-from_members}
-use Rattle.closing_machine.proofs.Ordered.{before_one_way, ahead, rest, front, behind, first_or_later}
 use Rattle.row_table.specs.declared.blocks.Block.{Block}
 use Rattle.row_table.specs.declared.span.Span.{Span}
 use Rattle.row_table.specs.Loaded.{Loaded, IsLoaded, IsRow, IsBehind, LiesIn, LiesInHigh}
 use Rattle.row_table.specs.Sieve.{HasVertex, IsEmptySet}
-use Rattle.row_table.specs.Joined.{Gives, GivesEnd, GivesJoins, HasEnd, MarksEnds, Sifts, LabelJoins, AppendsLabel, JoinsBelow, AppendsBelow, IsNextLabel, JoinsWhere, AppendsJoins, vertex}
+use Rattle.row_table.specs.Joined.{Gives, GivesEnd, GivesJoins, IsJoinOf, HasEnd, MarksEnds, Sifts, LabelJoins, AppendsLabel, JoinsBelow, AppendsBelow, IsNextLabel, JoinsWhere, AppendsJoins, vertex}
 use Rattle.row_table.proofs.SearchLemmas.{row_has, from_row}
 
 -- ---- lists
@@ -43,7 +43,7 @@ contains_map f xs x m = (m.0, (let l : length (map f xs) ≡ length xs = length-
 same_label : (x y : LabelId) → x.0 ≡ y.0 → x ≡ y
 same_label x y e = let f : ℕ → LabelId = λ i. record { 0 = i } in ap f e
 
-same_vertex : (x y : Vertex) → x.0 ≡ y.0 → x ≡ y
+pub same_vertex : (x y : Vertex) → x.0 ≡ y.0 → x ≡ y
 same_vertex x y e = let f : ℕ → Vertex = λ i. record { 0 = i } in ap f e
 
 none_distinct : IsDistinct eqb []
@@ -144,9 +144,9 @@ module _ (row : List Born) (u : Vertex) (blocks : List Block) where
           | inr ge ↦ elim (cases_lt k b.0) [
             | inl more ↦ absurd (either (λ (x : g.0.label.0 < k + 1). let e : g.0.label.0 ≡ b.0 = ap (λ (y : LabelId). y.0) g.2 in let z : g.0.label.0 < k + 1 = x in omega arith) (λ (x : (next ≤ g.0.label.0) × (g.0.label.0 < 65536)). let e : g.0.label.0 ≡ b.0 = ap (λ (y : LabelId). y.0) g.2 in omega (arith, x.0)) (All-contains (λ (x : Block). (x.label.0 < k + 1) ⊎ ((next ≤ x.label.0) × (x.label.0 < 65536))) blocks g.0 n.none g.1))
             | inr le ↦ (
-              let same : a ≡ b = same_label a b (omega arith) in
-              subst (λ (x : LabelId). HasEdge row (edge u x w) ⊎ Contains both (edge u x w)) same
-              (either (λ (h : HasEdge row (edge u a w)). inl h) (λ (m : Contains l.new (edge u a w)). inr (Contains-append_right f.new l.new (edge u a w) m)) (l.are.all w (subst (λ (x : LabelId). Gives blocks x w) (sym same) g))))
+                let same : a ≡ b = same_label a b (omega arith) in
+                subst (λ (x : LabelId). HasEdge row (edge u x w) ⊎ Contains both (edge u x w)) same
+                (either (λ (h : HasEdge row (edge u a w)). inl h) (λ (m : Contains l.new (edge u a w)). inr (Contains-append_right f.new l.new (edge u a w) m)) (l.are.all w (subst (λ (x : LabelId). Gives blocks x w) (sym same) g))))
           ]
         ]
 
@@ -174,7 +174,7 @@ labels_are_small blocks next n = All-weaker (λ (k : Block). (k.label.0 < 0) ⊎
 pub row_sources : (u : Vertex) (edges : List Born) → All (λ b. b.edge.src ≡ u) (row_of u.0 edges)
 row_sources u edges = All-from_members (λ (b : Born). b.edge.src ≡ u) (row_of u.0 edges) (λ b m. same_vertex b.edge.src u (from_row edges b u.0 m).1)
 
-module _ (n : Normal) (edges : List Born) (since : ℕ) (u : Vertex) (blocks : List Block) (gives : GivesJoins n edges since u blocks) where
+module _ (edges : List Born) (IsOne : Edge → Type 0) (u : Vertex) (blocks : List Block) (gives : GivesJoins IsOne u blocks) where
   abbrev IsBelowAll : Edge → Type 0
   IsBelowAll e = (e.src ≡ u) × (e.label.0 < 65536) × Gives blocks e.label e.dst × (HasEdge (row_of u.0 edges) e → ⊥)
 
@@ -188,50 +188,50 @@ module _ (n : Normal) (edges : List Born) (since : ℕ) (u : Vertex) (blocks : L
     labels : (a : LabelId) (w : Vertex) → Gives blocks a w → a.0 < 65536
     labels a w g = subst (λ (l : LabelId). l.0 < 65536) g.2 (All-contains (λ (k : Block). k.label.0 < 65536) blocks g.0 few g.1)
 
-    pub joins_from : JoinsWhere n edges since (λ v. v ≡ u.0) new
+    pub joins_from : JoinsWhere edges IsOne (λ v. v ≡ u.0) new
     joins_from =
         record {
-          joins = All-weaker IsBelowAll (λ (e : Edge). (x : Vertex) × IsCandidate n edges since x e) (λ e p. subst (λ (y : Edge). (x : Vertex) × IsCandidate n edges since x y) (same_edge e p.0) ((gives e.label e.dst).0 p.2)) new j.each;
+          joins = All-weaker IsBelowAll IsOne (λ e p. subst IsOne (same_edge e p.0) ((gives e.label e.dst).0 p.2)) new j.each;
           sources = All-weaker IsBelowAll (λ (e : Edge). e.src.0 ≡ u.0) (λ e p. ap (λ (v : Vertex). v.0) p.0) new j.each;
           absent = All-weaker IsBelowAll (λ (e : Edge). HasEdge edges e → ⊥) (λ e p h. p.3 (in_row e p.0 h)) new j.each;
-          complete = λ x e c s. all x e c (same_vertex e.src u s);
+          complete = λ e c s. all e c (same_vertex e.src u s);
           ascending = j.ascending;
         }
       where
-        all : (x : Vertex) (e : Edge) → IsCandidate n edges since x e → e.src ≡ u → HasEdge edges e ⊎ Contains new e
-        all x e c s =
-            let g : Gives blocks e.label e.dst = (gives e.label e.dst).1 (x, subst (λ (y : Edge). IsCandidate n edges since x y) (sym (same_edge e s)) c) in
+        all : (e : Edge) → IsOne e → e.src ≡ u → HasEdge edges e ⊎ Contains new e
+        all e c s =
+            let g : Gives blocks e.label e.dst = (gives e.label e.dst).1 (subst IsOne (sym (same_edge e s)) c) in
             subst (λ (y : Edge). HasEdge edges y ⊎ Contains new y) (same_edge e s)
             (either (λ (h : HasEdge (row_of u.0 edges) (edge u e.label e.dst)). inl ((row_has edges (edge u e.label e.dst)).0 h)) (λ (m : Contains new (edge u e.label e.dst)). inr m) (j.all e.label e.dst (labels e.label e.dst g) g))
 
 -- ---- vertex after vertex
 
-pub appends_none : (n : Normal) (edges : List Born) (since : ℕ) (P : ℕ → Type 0) (out : List Edge) → ((v : ℕ) → P v → ⊥) → AppendsJoins n edges since P out out
-appends_none n edges since P out none =
+pub appends_none : (edges : List Born) (IsOne : Edge → Type 0) (P : ℕ → Type 0) (out : List Edge) → ((v : ℕ) → P v → ⊥) → AppendsJoins edges IsOne P out out
+appends_none edges IsOne P out none =
     record {
       new = [];
       behind = sym (append-nil out);
       are = record {
-        joins = All-nil (λ (e : Edge). (x : Vertex) × IsCandidate n edges since x e);
+        joins = All-nil IsOne;
         sources = All-nil (λ (e : Edge). P e.src.0);
         absent = All-nil (λ (e : Edge). HasEdge edges e → ⊥);
-        complete = λ x e c p. absurd (none e.src.0 p);
+        complete = λ e c p. absurd (none e.src.0 p);
         ascending = λ i j d lt end. absurd (omega arith);
       };
     }
 
-module _ (n : Normal) (edges : List Born) (since : ℕ) (P Q R : ℕ → Type 0) (to : (v : ℕ) → R v → P v ⊎ Q v) (back : (v : ℕ) → P v ⊎ Q v → R v) (before : (v w : ℕ) → P v → Q w → v < w) where
-  joins_both : (xs ys : List Edge) → JoinsWhere n edges since P xs → JoinsWhere n edges since Q ys → JoinsWhere n edges since R (xs ++ ys)
+module _ (edges : List Born) (IsOne : Edge → Type 0) (P Q R : ℕ → Type 0) (to : (v : ℕ) → R v → P v ⊎ Q v) (back : (v : ℕ) → P v ⊎ Q v → R v) (before : (v w : ℕ) → P v → Q w → v < w) where
+  joins_both : (xs ys : List Edge) → JoinsWhere edges IsOne P xs → JoinsWhere edges IsOne Q ys → JoinsWhere edges IsOne R (xs ++ ys)
   joins_both xs ys f g =
       record {
-        joins = All-append (λ (e : Edge). (x : Vertex) × IsCandidate n edges since x e) xs ys f.joins g.joins;
+        joins = All-append IsOne xs ys f.joins g.joins;
         sources = All-append (λ (e : Edge). R e.src.0) xs ys (All-weaker (λ (e : Edge). P e.src.0) (λ (e : Edge). R e.src.0) (λ e p. back e.src.0 (inl p)) xs f.sources) (All-weaker (λ (e : Edge). Q e.src.0) (λ (e : Edge). R e.src.0) (λ e q. back e.src.0 (inr q)) ys g.sources);
         absent = All-append (λ (e : Edge). HasEdge edges e → ⊥) xs ys f.absent g.absent;
-        complete = λ x e c r. either (λ (p : P e.src.0). either (λ (h : HasEdge edges e). inl h) (λ (m : Contains xs e). inr (Contains-append_left xs ys e m)) (f.complete x e c p)) (λ (q : Q e.src.0). either (λ (h : HasEdge edges e). inl h) (λ (m : Contains ys e). inr (Contains-append_right xs ys e m)) (g.complete x e c q)) (to e.src.0 r);
+        complete = λ e c r. either (λ (p : P e.src.0). either (λ (h : HasEdge edges e). inl h) (λ (m : Contains xs e). inr (Contains-append_left xs ys e m)) (f.complete e c p)) (λ (q : Q e.src.0). either (λ (h : HasEdge edges e). inl h) (λ (m : Contains ys e). inr (Contains-append_right xs ys e m)) (g.complete e c q)) (to e.src.0 r);
         ascending = pairs_append IsBefore xs ys f.ascending g.ascending (λ x y mx my. inl (before x.src.0 y.src.0 (All-contains (λ (e : Edge). P e.src.0) xs x f.sources mx) (All-contains (λ (e : Edge). Q e.src.0) ys y g.sources my)));
       }
 
-  pub appends_both : (start mid end : List Edge) → AppendsJoins n edges since P start mid → AppendsJoins n edges since Q mid end → AppendsJoins n edges since R start end
+  pub appends_both : (start mid end : List Edge) → AppendsJoins edges IsOne P start mid → AppendsJoins edges IsOne Q mid end → AppendsJoins edges IsOne R start end
   appends_both start mid end f g =
       record {
         new = f.new ++ g.new;
@@ -239,29 +239,26 @@ module _ (n : Normal) (edges : List Born) (since : ℕ) (P Q R : ℕ → Type 0)
         are = joins_both f.new g.new f.are g.are;
       }
 
-module _ (n : Normal) (edges : List Born) (since low : ℕ) where
-  pub vertices_none : (out : List Edge) → AppendsJoins n edges since (λ v. (low ≤ v) × (v < low)) out out
-  vertices_none out = appends_none n edges since (λ v. (low ≤ v) × (v < low)) out (λ v p. omega (arith, p.0, p.1))
+module _ (edges : List Born) (IsOne : Edge → Type 0) (low : ℕ) where
+  pub vertices_none : (out : List Edge) → AppendsJoins edges IsOne (λ v. (low ≤ v) × (v < low)) out out
+  vertices_none out = appends_none edges IsOne (λ v. (low ≤ v) × (v < low)) out (λ v p. omega (arith, p.0, p.1))
 
-  pub vertices_more : (v : ℕ) (start mid end : List Edge) → low ≤ v → AppendsJoins n edges since (λ w. (low ≤ w) × (w < v)) start mid → AppendsJoins n edges since (λ w. w ≡ v) mid end → AppendsJoins n edges since (λ w. (low ≤ w) × (w < v + 1)) start end
+  pub vertices_more : (v : ℕ) (start mid end : List Edge) → low ≤ v → AppendsJoins edges IsOne (λ w. (low ≤ w) × (w < v)) start mid → AppendsJoins edges IsOne (λ w. w ≡ v) mid end → AppendsJoins edges IsOne (λ w. (low ≤ w) × (w < v + 1)) start end
   vertices_more v start mid end le f g =
-      appends_both n edges since (λ w. (low ≤ w) × (w < v)) (λ w. w ≡ v) (λ w. (low ≤ w) × (w < v + 1))
+      appends_both edges IsOne (λ w. (low ≤ w) × (w < v)) (λ w. w ≡ v) (λ w. (low ≤ w) × (w < v + 1))
       (λ w p. elim (cases_lt w v) [ inl lt ↦ inl (p.0, lt) | inr ge ↦ inr (let l : w < v + 1 = p.1 in omega arith) ])
       (λ w o. either (λ (p : (low ≤ w) × (w < v)). (p.0, omega (arith, p.1))) (λ (e : w ≡ v). (omega arith, omega arith)) o)
       (λ w x p e. omega (arith, p.1, e))
       start mid end f g
 
--- the joins from all vertices that have edges are a round
-pub joins_are_round : (n : Normal) (l : Loaded) (since : ℕ) (out : List Edge) → IsLoaded l → AppendsJoins n l.edges since (IsRow l) [] out → IsRound n l.edges since out
-joins_are_round n l since out h a =
-    let j = a.are in
-    rw a.behind (
-      record {
-        joins = j.joins;
-        absent = j.absent;
-        complete = λ x e c. j.complete x e c (subst (λ (v : Vertex). IsRow l v.0) (sym c.join.source) (All-contains (λ (b : Born). IsRow l b.edge.src.0) l.edges c.first h.sources c.has_first));
-        ascending = j.ascending;
-      })
+-- ---- the joins from all vertices
+
+-- all joins of a sort that the edges lack, in order
+pub record AllJoins (edges : List Born) (IsOne : Edge → Type 0) (new : List Edge) : Type 0 where
+  pub joins : All IsOne new
+  pub absent : All (λ e. HasEdge edges e → ⊥) new
+  pub complete : (e : Edge) → IsOne e → HasEdge edges e ⊎ Contains new e
+  pub ascending : IsAscending new
 
 pub spans_behind : (l : Loaded) → IsLoaded l → (v w : ℕ) → LiesIn l.low v → LiesInHigh l.high w → v < w
 spans_behind l h v w p q = behind_low l.low l.high h.behind v w p q
@@ -270,15 +267,28 @@ spans_behind l h v w p q = behind_low l.low l.high h.behind v w p q
     behind_low low None b v w p q = absurd q
     behind_low low (Some s) b v w p q = omega (arith, p.1, b.0, q.0)
 
-pub two_spans : (n : Normal) (l : Loaded) (since : ℕ) (mid end : List Edge) → IsLoaded l → AppendsJoins n l.edges since (LiesIn l.low) [] mid → AppendsJoins n l.edges since (LiesInHigh l.high) mid end → IsRound n l.edges since end
-two_spans n l since mid end h f g =
-    joins_are_round n l since end h
-    (appends_both n l.edges since (LiesIn l.low) (LiesInHigh l.high) (IsRow l) (λ v r. r) (λ v o. o) (spans_behind l h) [] mid end f g)
+pub two_spans : (l : Loaded) (IsOne : Edge → Type 0) (mid end : List Edge) → IsLoaded l → ((e : Edge) → IsOne e → IsRow l e.src.0) → AppendsJoins l.edges IsOne (LiesIn l.low) [] mid → AppendsJoins l.edges IsOne (LiesInHigh l.high) mid end → AllJoins l.edges IsOne end
+two_spans l IsOne mid end h from f g =
+    let a = appends_both l.edges IsOne (LiesIn l.low) (LiesInHigh l.high) (IsRow l) (λ v r. r) (λ v o. o) (spans_behind l h) [] mid end f g in
+    rw a.behind (record { joins = a.are.joins; absent = a.are.absent; complete = λ e c. a.are.complete e c (from e c); ascending = a.are.ascending })
 
-pub vertex_appends : (n : Normal) (edges : List Born) (since : ℕ) (u : Vertex) (blocks passed : List Block) → passed ≡ blocks → GivesJoins n edges since u blocks → (before after : List Edge) → AppendsBelow (row_of u.0 edges) u passed 65536 before after → All (λ k. k.label.0 < 65536) passed → AppendsJoins n edges since (λ v. v ≡ u.0) before after
-vertex_appends n edges since u blocks passed same gives before after a few =
+source_is_row : (n : Normal) (l : Loaded) (since : ℕ) → IsLoaded l → (x : Vertex) (e : Edge) → IsCandidate n l.edges since x e → IsRow l e.src.0
+source_is_row n l since h x e c = subst (λ (v : Vertex). IsRow l v.0) (sym c.join.source) (All-contains (λ (b : Born). IsRow l b.edge.src.0) l.edges c.first h.sources c.has_first)
+
+pub all_joins_are_round : (n : Normal) (l : Loaded) (since : ℕ) (mid end : List Edge) → IsLoaded l → AppendsJoins l.edges (IsJoinOf n l.edges since) (LiesIn l.low) [] mid → AppendsJoins l.edges (IsJoinOf n l.edges since) (LiesInHigh l.high) mid end → IsRound n l.edges since end
+all_joins_are_round n l since mid end h f g =
+    let a = two_spans l (IsJoinOf n l.edges since) mid end h (λ e c. source_is_row n l since h c.0 e c.1) f g in
+    record { joins = a.joins; absent = a.absent; complete = λ x e c. a.complete e (x, c); ascending = a.ascending }
+
+pub all_joins_at : (n : Normal) (l : Loaded) (since : ℕ) (x : Vertex) (mid end : List Edge) → IsLoaded l → AppendsJoins l.edges (IsCandidate n l.edges since x) (LiesIn l.low) [] mid → AppendsJoins l.edges (IsCandidate n l.edges since x) (LiesInHigh l.high) mid end → IsJoinsAt n l.edges since x end
+all_joins_at n l since x mid end h f g =
+    let a = two_spans l (IsCandidate n l.edges since x) mid end h (source_is_row n l since h x) f g in
+    record { joins = a.joins; absent = a.absent; complete = a.complete; ascending = a.ascending }
+
+pub vertex_appends : (edges : List Born) (IsOne : Edge → Type 0) (u : Vertex) (blocks passed : List Block) → passed ≡ blocks → GivesJoins IsOne u blocks → (before after : List Edge) → AppendsBelow (row_of u.0 edges) u passed 65536 before after → All (λ k. k.label.0 < 65536) passed → AppendsJoins edges IsOne (λ v. v ≡ u.0) before after
+vertex_appends edges IsOne u blocks passed same gives before after a few =
     record {
       new = a.new;
       behind = a.behind;
-      are = joins_from n edges since u passed (subst (λ (l : List Block). GivesJoins n edges since u l) (sym same) gives) a.new a.are few;
+      are = joins_from edges IsOne u passed (subst (λ (l : List Block). GivesJoins IsOne u l) (sym same) gives) a.new a.are few;
     }

@@ -7,3 +7,5 @@ mod SearchLemmas
 mod BlockLemmas
 mod SieveLemmas
 mod JoinLemmas
+mod CentreLemmas
+mod ThroughLemmas

@@ -1,5 +1,5 @@
 -- What is loaded stays in order.
-use Rattle.std.proofs.Common.{◌≡◌, ℕ, ◌+◌, ◌<◌, ◌≤◌, ◌⊎◌, Option, Some, None, List, [], ◌∷◌, ◌++◌, length, get_or, take, drop, refl, sym, ap, subst, ◌∙◌, arith, inl, inr}
+use Rattle.std.proofs.Common.{◌≡◌, ℕ, ◌+◌, ◌<◌, ◌≤◌, ◌⊎◌, Some, List, ◌++◌, length, get_or, take, drop, arith, inl, inr}
 use Rattle.std.specs.Prelude.{All, Contains}
 use Rattle.std.proofs.lemmas.List.Elements.{All-append, All-weaker, All-map, All-contains}
 use Rattle.std.proofs.lemmas.List.Sorted.{All-permutation}
@@ -7,7 +7,7 @@ use Rattle.graph_words.specs.declared.types.Edge.{Edge}
 use Rattle.graph_words.specs.declared.types.Born.{Born}
 use Rattle.graph_words.specs.Reach.{IsBefore}
 use Rattle.partition_file.specs.Spelling.{Part, IsPart}
-use Rattle.closing_machine.specs.Rounds.{IsOrdered, IsInOrder, HasEdge, all_born, born}
+use Rattle.closing_machine.specs.Rounds.{IsInOrder, all_born, born}
 use Rattle.closing_machine.proofs.Ordered.{ordered_append}
 use Rattle.std.proofs.lemmas.List.{length-take, length-drop, get_or-take, get_or-drop}
 use Rattle.closing_machine.proofs.Members.{either}
@@ -39,8 +39,8 @@ module _ (low high : Part) (p : IsPart low) (q : IsPart high) (apart : low.hi �
         behind = (apart, q.bounds);
         ordered = ordered_append low.edges high.edges p.ascending q.ascending before;
         sources = All-append (λ (b : Born). ((low.lo ≤ b.edge.src.0) × (b.edge.src.0 < low.hi)) ⊎ ((high.lo ≤ b.edge.src.0) × (b.edge.src.0 < high.hi))) low.edges high.edges
-        (All-weaker (λ (b : Born). (low.lo ≤ b.edge.src.0) × (b.edge.src.0 < low.hi)) (λ (b : Born). ((low.lo ≤ b.edge.src.0) × (b.edge.src.0 < low.hi)) ⊎ ((high.lo ≤ b.edge.src.0) × (b.edge.src.0 < high.hi))) (λ b h. inl h) low.edges p.within)
-        (All-weaker (λ (b : Born). (high.lo ≤ b.edge.src.0) × (b.edge.src.0 < high.hi)) (λ (b : Born). ((low.lo ≤ b.edge.src.0) × (b.edge.src.0 < low.hi)) ⊎ ((high.lo ≤ b.edge.src.0) × (b.edge.src.0 < high.hi))) (λ b h. inr h) high.edges q.within);
+            (All-weaker (λ (b : Born). (low.lo ≤ b.edge.src.0) × (b.edge.src.0 < low.hi)) (λ (b : Born). ((low.lo ≤ b.edge.src.0) × (b.edge.src.0 < low.hi)) ⊎ ((high.lo ≤ b.edge.src.0) × (b.edge.src.0 < high.hi))) (λ b h. inl h) low.edges p.within)
+            (All-weaker (λ (b : Born). (high.lo ≤ b.edge.src.0) × (b.edge.src.0 < high.hi)) (λ (b : Born). ((low.lo ≤ b.edge.src.0) × (b.edge.src.0 < low.hi)) ⊎ ((high.lo ≤ b.edge.src.0) × (b.edge.src.0 < high.hi))) (λ b h. inr h) high.edges q.within);
       }
 
 pub two_given : (low high : Part) (a b c d : ℕ) (first all : List Born) → IsPart low → IsPart high → low.hi ≤ high.lo → a ≡ low.lo → b ≡ low.hi → c ≡ high.lo → d ≡ high.hi → first ≡ low.edges → all ≡ first ++ high.edges → IsLoaded (record { low = record { lo = a; hi = b }; high = Some (record { lo = c; hi = d }); edges = all })

@@ -1,6 +1,6 @@
 -- The row of a vertex is what stands between two places.
-use Rattle.std.proofs.Common.{◌≡◌, ◌≢◌, ℕ, suc, ◌+◌, ◌-◌, ◌<◌, ◌≤◌, ◌⊎◌, Bool, true, false, cond, Option, Some, None, List, [], ◌∷◌, ◌++◌, length, get_or, take, drop, refl, sym, ap, subst, ◌∙◌, arith, inl, inr}
-use Rattle.std.specs.Prelude.{All, AllPairs, filter}
+use Rattle.std.proofs.Common.{◌≡◌, ◌≢◌, ℕ, ◌+◌, ◌-◌, ◌<◌, ◌≤◌, Bool, true, false, cond, Some, None, List, [], ◌∷◌, ◌++◌, length, get_or, take, drop, refl, sym, ap, subst, ◌∙◌, arith, inl, inr}
+use Rattle.std.specs.Prelude.{All, filter}
 use Rattle.std.proofs.lemmas.Bool.{cases_lt}
 use Rattle.std.proofs.lemmas.Bool.Decides.{nat_tests}
 use Rattle.std.proofs.lemmas.List.{append-nil, length-take, length-drop, take-append-drop, get_or-take, get_or-drop, drop-drop}
@@ -72,10 +72,10 @@ module _ (edges : List Born) (v p q : ℕ) (first : PartsAt edges v p) (second :
   in_order =
       elim (cases_lt q p) [
         | inl lt ↦ absurd (
-          let below : (get_or edges q some_born).edge.src.0 < v = first.front.before q some_born lt in
-          let end : p ≤ length edges = first.front.within in
-          let above : v + 1 ≤ (get_or edges q some_born).edge.src.0 = second.behind q some_born (omega arith) (omega arith) in
-          omega arith)
+            let below : (get_or edges q some_born).edge.src.0 < v = first.front.before q some_born lt in
+            let end : p ≤ length edges = first.front.within in
+            let above : v + 1 ≤ (get_or edges q some_born).edge.src.0 = second.behind q some_born (omega arith) (omega arith) in
+            omega arith)
         | inr le ↦ le
       ]
 

@@ -1,10 +1,10 @@
 -- A place found among edges in order.
-use Rattle.std.proofs.Common.{◌≡◌, ℕ, ◌+◌, ◌<◌, ◌≤◌, ◌⊎◌, ◌==◌, Bool, true, false, not, List, [], ◌∷◌, ◌++◌, length, get_or, refl, sym, ap, subst, ◌∙◌, arith, inl, inr}
-use Rattle.std.specs.Prelude.{All, AllPairs, Contains, ◌↔◌, filter}
-use Rattle.std.proofs.lemmas.Bool.{cases_lt, cases_eq, false≢true}
+use Rattle.std.proofs.Common.{◌≡◌, ℕ, ◌+◌, ◌<◌, ◌≤◌, ◌⊎◌, Bool, true, false, not, List, length, get_or, refl, sym, ap, subst, ◌∙◌, arith, inl, inr}
+use Rattle.std.specs.Prelude.{Contains, ◌↔◌}
+use Rattle.std.proofs.lemmas.Bool.{cases_lt, false≢true}
 use Rattle.std.proofs.lemmas.Bool.Decides.{nat_tests}
 use Rattle.std.proofs.lemmas.List.{get_or_default}
-use Rattle.std.proofs.lemmas.List.Elements.{All-contains, All-filter, Contains-get_or}
+use Rattle.std.proofs.lemmas.List.Elements.{All-filter}
 use Rattle.std.proofs.lemmas.List.Kept.{AllPairs-filter}
 use Rattle.graph_words.specs.declared.types.Edge.{Edge}
 use Rattle.graph_words.specs.declared.types.Born.{Born}
@@ -13,7 +13,7 @@ use Rattle.partition_file.specs.Spelling.{is_from, row_of}
 use Rattle.closing_machine.specs.Rounds.{IsOrdered, HasEdge, born}
 use Rattle.closing_machine.proofs.Members.{either, Contains-filter, Contains-kept, passes}
 use Rattle.row_table.specs.Index.{StandBefore, PartsBefore}
-use Rattle.row_table.specs.Loaded.{Loaded, IsLoaded, IsRow, newer_of, newer_edges}
+use Rattle.row_table.specs.Loaded.{Loaded, IsLoaded, IsRow, newer_of}
 use Rattle.row_table.proofs.OrderLemmas.{before_trans, before_not_same, one_first}
 use Rattle.row_table.proofs.RowLemmas.{is_from_yes}
 

@@ -1,16 +1,15 @@
 -- Ends that are marked and sifted, one after the other.
-use Rattle.std.proofs.Common.{◌≡◌, ◌≢◌, ◌↔◌, ℕ, suc, ◌+◌, ◌-◌, ◌<◌, ◌≤◌, ◌⊎◌, Bool, true, false, not, eqb, MatchBool, List, [], ◌∷◌, ◌++◌, length, get_or, take, drop, map, refl, sym, ap, subst, ◌∙◌, arith, inl, inr}
-use Rattle.std.specs.Prelude.{All, AllPairs, Contains}
-use Rattle.std.specs.List.{IsDistinct, list_any}
-use Rattle.std.proofs.lemmas.Bool.{cases_lt, cases_eq, false≢true}
+use Rattle.std.proofs.Common.{◌≡◌, ◌≢◌, ℕ, suc, ◌+◌, ◌-◌, ◌<◌, ◌≤◌, ◌⊎◌, Bool, true, false, eqb, MatchBool, List, [], ◌∷◌, ◌++◌, length, get_or, take, drop, refl, sym, ap, subst, ◌∙◌, arith, inl, inr}
+use Rattle.std.specs.Prelude.{All, Contains}
+use Rattle.std.specs.List.{list_any}
+use Rattle.std.proofs.lemmas.Bool.{cases_eq, false≢true}
 use Rattle.std.proofs.lemmas.Bool.Decides.{nat_tests}
-use Rattle.std.proofs.lemmas.List.{take_more, take_all}
+use Rattle.std.proofs.lemmas.List.{take_more}
 use Rattle.std.proofs.lemmas.List.Elements.{All-weaker, All-push, All-contains, Contains-append_left, Contains-append_right, Contains-append_cases, Contains-push, Contains-push_cases}
-use Rattle.std.proofs.lemmas.Map.Keys.{IsDistinct-push, IsDistinct-IsPermutation, IsStrictlyIncreasing-from_distinct}
+use Rattle.std.proofs.lemmas.Map.Keys.{IsDistinct-push}
 use Rattle.std.proofs.lemmas.Cmp.{nat_eq_equiv}
 use Rattle.graph_words.specs.declared.types.Vertex.{Vertex}
 use Rattle.graph_words.specs.declared.types.LabelId.{LabelId}
-use Rattle.graph_words.specs.declared.types.Edge.{Edge}
 use Rattle.graph_words.specs.declared.types.Born.{Born}
 use Rattle.closing_machine.proofs.Members.{either}
 use Rattle.row_table.specs.declared.blocks.Block.{Block}
@@ -42,9 +41,9 @@ module _ (f g h : ℕ → Type 0) (to : (w : ℕ) → h w → f w ⊎ g w) (back
         keeps = λ w m. q.keeps w (p.keeps w m);
         has = λ w m. either (λ (x : f w). either (λ (y : HasVertex before w). inl y) (λ (y : Contains mid w). inr (q.keeps w y)) (p.has w x)) (λ (x : g w). either (λ (y : HasVertex now w). later w y) (λ (y : Contains end w). inr y) (q.has w x)) (to w m);
         only = λ w m. either
-          (λ (x : Contains mid w). either (λ (y : Contains start w). inl y) (λ (y : (HasVertex before w → ⊥) × f w). inr (y.0, back w (inl y.1))) (p.only w x))
-          (λ (x : (HasVertex now w → ⊥) × g w). inr (λ m. x.0 (p.marks.keeps w m), back w (inr x.1)))
-          (q.only w m);
+            (λ (x : Contains mid w). either (λ (y : Contains start w). inl y) (λ (y : (HasVertex before w → ⊥) × f w). inr (y.0, back w (inl y.1))) (p.only w x))
+            (λ (x : (HasVertex now w → ⊥) × g w). inr (λ m. x.0 (p.marks.keeps w m), back w (inr x.1)))
+            (q.only w m);
         once = λ a d. (let r = p.once a d in q.once r.0 r.1);
       }
     where
@@ -121,10 +120,10 @@ module _ (run : List Born) (i : ℕ) (d : Born) (lt : i < length run) where
   pub ends_back : (w : ℕ) → EndsHere (take i run) w ⊎ (w ≡ (get_or run i d).edge.dst.0) → EndsHere (take (i + 1) run) w
   ends_back w o =
       rw (take_more run i d lt) (
-        either
-        (λ (h : EndsHere (take i run) w). (h.0, Contains-append_left (take i run) (get_or run i d ∷ []) h.0 h.1, h.2))
-        (λ (e : w ≡ (get_or run i d).edge.dst.0). (get_or run i d, Contains-push (take i run) (get_or run i d), sym e))
-        o)
+      either
+      (λ (h : EndsHere (take i run) w). (h.0, Contains-append_left (take i run) (get_or run i d ∷ []) h.0 h.1, h.2))
+      (λ (e : w ≡ (get_or run i d).edge.dst.0). (get_or run i d, Contains-push (take i run) (get_or run i d), sym e))
+      o)
 
   pub mark_more : (before now after : List Bool) → MarksEnds (EndsHere (take i run)) before now → AddsVertex now after (get_or run i d).edge.dst.0 → MarksEnds (EndsHere (take (i + 1) run)) before after
   mark_more before now after p a = marks_both (EndsHere (take i run)) (λ w. w ≡ (get_or run i d).edge.dst.0) (EndsHere (take (i + 1) run)) ends_to ends_back before now after p (marks_one now after (get_or run i d).edge.dst.0 a)
@@ -146,11 +145,11 @@ module _ (blocks : List Block) (a : LabelId) (i : ℕ) (d : Block) (lt : i < len
   pub blocks_back : (w : ℕ) → GivesEnd (take i blocks) a w ⊎ BlockGives (get_or blocks i d) a w → GivesEnd (take (i + 1) blocks) a w
   blocks_back w o =
       rw (take_more blocks i d lt) (
-        gives_push_back (take i blocks) (get_or blocks i d) a (vertex w) (
-          either
-          (λ (g : GivesEnd (take i blocks) a w). inl g)
-          (λ (p : BlockGives (get_or blocks i d) a w). inr (p.0, (p.1.0, p.1.1, vertex_of_number p.1.0.edge.dst w p.1.2)))
-          o))
+      gives_push_back (take i blocks) (get_or blocks i d) a (vertex w) (
+      either
+      (λ (g : GivesEnd (take i blocks) a w). inl g)
+      (λ (p : BlockGives (get_or blocks i d) a w). inr (p.0, (p.1.0, p.1.1, vertex_of_number p.1.0.edge.dst w p.1.2)))
+      o))
 
   pub blocks_more : (before now after : List Bool) (start mid end : List ℕ) → Sifts (GivesEnd (take i blocks) a) before now start mid → Sifts (BlockGives (get_or blocks i d) a) now after mid end → Sifts (GivesEnd (take (i + 1) blocks) a) before after start end
   blocks_more before now after start mid end p q = sifts_both (GivesEnd (take i blocks) a) (BlockGives (get_or blocks i d) a) (GivesEnd (take (i + 1) blocks) a) blocks_to blocks_back before now after start mid end p q

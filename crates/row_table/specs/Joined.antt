@@ -1,5 +1,5 @@
 -- The joins of a round, row after row.
-use Rattle.std.specs.Prelude.{◌≡◌, ℕ, ◌+◌, ◌<◌, ◌≤◌, ◌⊎◌, ◌↔◌, eqb, Bool, false, true, List, ◌++◌, All, AllPairs, Contains}
+use Rattle.std.specs.Prelude.{◌≡◌, ℕ, ◌<◌, ◌≤◌, ◌⊎◌, ◌↔◌, eqb, Bool, true, length, slice_index_or, List, ◌++◌, All, AllPairs, Contains}
 use Rattle.std.specs.List.{IsDistinct}
 use Rattle.graph_words.specs.declared.types.Vertex.{Vertex}
 use Rattle.graph_words.specs.declared.types.LabelId.{LabelId}
@@ -9,25 +9,30 @@ use Rattle.graph_words.specs.Reach.{IsAscending, edge}
 use Rattle.normal_law.specs.Closure.{Normal}
 use Rattle.normal_law.specs.Closed.{Joins}
 use Rattle.partition_file.specs.Spelling.{row_of}
-use Rattle.closing_machine.specs.Rounds.{IsCandidate, IsOrdered, HasEdge}
+use Rattle.closing_machine.specs.Rounds.{IsCandidate, HasEdge}
 use Rattle.row_table.specs.declared.blocks.Block.{Block}
 use Rattle.row_table.specs.Sieve.{HasVertex}
+use Rattle.row_table.specs.Loaded.{IsCentre}
 
 -- ---- what the rows give
 
--- the joins from the vertices of a kind that the edges lack, in order
-pub record JoinsWhere (n : Normal) (edges : List Born) (since : ℕ) (P : ℕ → Type 0) (new : List Edge) : Type 0 where
-  pub joins : All (λ e. (x : Vertex) × IsCandidate n edges since x e) new
+-- e is a join at some vertex of two of the edges, of which one is born at or after since
+abbrev pub IsJoinOf : Normal → List Born → ℕ → Edge → Type 0
+IsJoinOf n edges since e = (x : Vertex) × IsCandidate n edges since x e
+
+-- all joins of a sort from the vertices of a kind that the edges lack, in order
+pub record JoinsWhere (edges : List Born) (IsOne : Edge → Type 0) (P : ℕ → Type 0) (new : List Edge) : Type 0 where
+  pub joins : All IsOne new
   pub sources : All (λ e. P e.src.0) new
   pub absent : All (λ e. HasEdge edges e → ⊥) new
-  pub complete : (x : Vertex) (e : Edge) → IsCandidate n edges since x e → P e.src.0 → HasEdge edges e ⊎ Contains new e
+  pub complete : (e : Edge) → IsOne e → P e.src.0 → HasEdge edges e ⊎ Contains new e
   pub ascending : IsAscending new
 
 -- they stand behind what was there
-pub record AppendsJoins (n : Normal) (edges : List Born) (since : ℕ) (P : ℕ → Type 0) (before after : List Edge) : Type 0 where
+pub record AppendsJoins (edges : List Born) (IsOne : Edge → Type 0) (P : ℕ → Type 0) (before after : List Edge) : Type 0 where
   pub new : List Edge
   pub behind : after ≡ before ++ new
-  pub are : JoinsWhere n edges since P new
+  pub are : JoinsWhere edges IsOne P new
 
 -- ---- the blocks of a row
 
@@ -47,6 +52,21 @@ Gives blocks a w = (k : Block) × Contains blocks k × (k.label ≡ a) × ((c : 
 abbrev pub AddsJoins : Normal → LabelId → List Born → List Block → List Block → Type 0
 AddsJoins n first row before after = (a : LabelId) (w : Vertex) → Gives after a w ↔ (Gives before a w ⊎ JoinsTo n first row a w)
 
+-- each label that joins to some label behind the first one is among these
+abbrev pub AreSeconds : Normal → LabelId → List LabelId → Type 0
+AreSeconds n first labels = (c a : LabelId) → Joins n first c a → Contains labels c
+
+-- the blocks give what they gave, and what the first label joins to with the edges of the row that have a second label
+abbrev pub AddsSecond : Normal → LabelId → List Born → LabelId → List Block → List Block → Type 0
+AddsSecond n first row label before after = (a : LabelId) (w : Vertex)
+    → Gives after a w ↔ (Gives before a w ⊎ ((c : Born) × Contains row c × (c.edge.label ≡ label) × Joins n first c.edge.label a × (c.edge.dst ≡ w)))
+
+-- the first n edges of the row have labels below a number, and the others don't
+pub record PartsLabels (row : List Born) (from n : ℕ) : Type 0 where
+  pub within : n ≤ length row
+  pub before : (k : ℕ) (d : Born) → k < n → (slice_index_or row k d).edge.label.0 < from
+  pub behind : (k : ℕ) (d : Born) → n ≤ k → k < length row → from ≤ (slice_index_or row k d).edge.label.0
+
 -- a first edge that counts: each, or each that is born before since
 abbrev pub Counts : Bool → ℕ → Born → Type 0
 Counts every since b = (every ≡ true) ⊎ (b.birth < since)
@@ -61,9 +81,20 @@ abbrev pub AddsRows : Normal → Bool → ℕ → List Born → List Born → Li
 AddsRows n every since firsts edges before after = (a : LabelId) (w : Vertex)
     → Gives after a w ↔ (Gives before a w ⊎ ((b : Born) × Contains firsts b × Counts every since b × JoinsTo n b.edge.label (row_of b.edge.dst.0 edges) a w))
 
--- the blocks give just what joins from u
-abbrev pub GivesJoins : Normal → List Born → ℕ → Vertex → List Block → Type 0
-GivesJoins n edges since u blocks = (a : LabelId) (w : Vertex) → Gives blocks a w ↔ ((x : Vertex) × IsCandidate n edges since x (edge u a w))
+-- what an edge that ends at the centre x joins to: a new one with the row of x, and an old one with its new edges
+abbrev pub Through : Normal → ℕ → Vertex → List Born → List Born → Born → LabelId → Vertex → Type 0
+Through n since x row newer b a w = (b.edge.dst ≡ x) × (((since ≤ b.birth) × JoinsTo n b.edge.label row a w) ⊎ ((b.birth < since) × JoinsTo n b.edge.label newer a w))
+
+abbrev pub AddsThroughOne : Normal → ℕ → Vertex → List Born → List Born → Born → List Block → List Block → Type 0
+AddsThroughOne n since x row newer b before after = (a : LabelId) (w : Vertex) → Gives after a w ↔ (Gives before a w ⊎ Through n since x row newer b a w)
+
+abbrev pub AddsThrough : Normal → ℕ → Vertex → List Born → List Born → List Born → List Block → List Block → Type 0
+AddsThrough n since x row newer firsts before after = (a : LabelId) (w : Vertex)
+    → Gives after a w ↔ (Gives before a w ⊎ ((b : Born) × Contains firsts b × Through n since x row newer b a w))
+
+-- the blocks give just the joins of a sort from u
+abbrev pub GivesJoins : (Edge → Type 0) → Vertex → List Block → Type 0
+GivesJoins IsOne u blocks = (a : LabelId) (w : Vertex) → Gives blocks a w ↔ IsOne (edge u a w)
 
 -- ---- the ends of a label
 
@@ -127,3 +158,21 @@ pub record IsNextLabel (blocks : List Block) (from next : ℕ) : Type 0 where
   pub on : from ≤ next
   pub small : next ≤ 65536
   pub none : All (λ k. (k.label.0 < from) ⊎ ((next ≤ k.label.0) × (k.label.0 < 65536))) blocks
+
+-- ---- centres
+
+-- the set has just the vertices where an edge ends
+abbrev pub IsEndSet : List Born → List Bool → Type 0
+IsEndSet edges ends = (w : ℕ) → HasVertex ends w ↔ EndsHere edges w
+
+-- the centres of a kind, in ascending order
+pub record CentresWhere (edges : List Born) (P : ℕ → Type 0) (centres : List Vertex) : Type 0 where
+  pub all : (x y : Born) → Contains edges x → Contains edges y → x.edge.dst ≡ y.edge.src → P x.edge.dst.0 → Contains centres x.edge.dst
+  pub only : All (λ v. IsCentre edges v × P v.0) centres
+  pub ascending : AllPairs (λ v w. v.0 < w.0) centres
+
+-- they stand behind what was there
+pub record AppendsCentres (edges : List Born) (P : ℕ → Type 0) (before after : List Vertex) : Type 0 where
+  pub new : List Vertex
+  pub behind : after ≡ before ++ new
+  pub are : CentresWhere edges P new

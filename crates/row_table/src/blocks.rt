@@ -1,8 +1,8 @@
 //! The blocks of a row: runs of second edges, each with a label that its edges join to behind a first edge.
-ghost use Rattle.std.specs.Prelude.{◌≡◌, ◌+◌, ◌<◌, ◌≤◌, All, length, slice_range, slice_index_or, OnOk};
+ghost use Rattle.std.specs.Prelude.{◌≡◌, ◌↔◌, Contains, ◌+◌, ◌<◌, ◌≤◌, All, IsTrue, length, slice_range, slice_index_or, OnOk};
 ghost use Rattle.graph_words.specs.declared.types.Born.{Born as ABorn};
 ghost use Rattle.normal_law.specs.NormalForm.{normal_form};
-ghost use Rattle.row_table.specs.Joined.{LabelsAscend, AddsJoins, AddsFirst, AddsRows, GivesJoins};
+ghost use Rattle.row_table.specs.Joined.{LabelsAscend, AddsJoins, AddsSecond, AddsFirst, AddsRows, AreSeconds, Counts, GivesJoins, IsJoinOf, PartsLabels};
 ghost use Rattle.row_table.specs.Loaded.{newer_of};
 
 use crate::row_starts::part;
@@ -40,6 +40,35 @@ pub(crate) fn run_end(row: &[Born], start: usize, label: LabelId) -> usize
     low
 }
 
+/// How many edges of a row have a label below a number. A binary search.
+fn label_place(row: &[Born], from: u32) -> usize
+    requires { LabelsAscend row.now }
+    ensures { PartsLabels row.now from result }
+{
+    let mut low = 0;
+    let mut high = row.len();
+    while low < high {
+        let middle = low + (high - low) / 2;
+        if u32::from(row[middle].edge.label.0) < from {
+            low = middle + 1;
+        } else {
+            high = middle;
+        }
+    }
+    low
+}
+
+/// The edges of a row that have the label.
+fn run_of(row: &[Born], label: LabelId) -> &[Born]
+    requires { LabelsAscend row.now }
+    ensures { (b : ABorn) → Contains result.now b ↔ (Contains row.now b × (b.edge.label ≡ label)) }
+{
+    let number = u32::from(label.0);
+    let start = label_place(row, number);
+    let end = label_place(row, number + 1);
+    part(row, start, end)
+}
+
 /// Adds a block for each label that the first label joins to with the run's label.
 fn add_run<'a>(
     normal: &Normal,
@@ -60,58 +89,136 @@ fn add_run<'a>(
     Ok(())
 }
 
-/// Adds the blocks of a first label and the row behind it.
-fn add_row<'a>(
+/// Adds the blocks of a first label and of those edges of a row that have a second label, if there are any.
+fn add_second<'a>(
     normal: &Normal,
     first: LabelId,
+    label: LabelId,
     row: &'a [Born],
     blocks: &mut Vec<Block<'a>>,
 ) -> Result<(), AllocError>
     requires { LabelsAscend row.now }
-    ensures { OnOk result (AddsJoins (normal_form normal.now) first row.now blocks.old.items blocks.new.items) }
+    ensures { OnOk result (AddsSecond (normal_form normal.now) first row.now label blocks.old.items blocks.new.items) }
 {
-    let mut start = 0;
-    while start < row.len() {
-        let label = row[start].edge.label;
-        let end = run_end(row, start, label);
-        add_run(normal, first, label, part(row, start, end), blocks)?;
-        start = end;
-    }
-    Ok(())
-}
-
-/// Adds the blocks of a first edge with the row of its end, unless only old first edges count and it is a new one.
-fn add_first<'a>(
-    normal: &Normal,
-    first: Born,
-    every: bool,
-    since: u64,
-    seconds: &'a Rows,
-    blocks: &mut Vec<Block<'a>>,
-) -> Result<(), AllocError>
-    ensures { OnOk result (AddsFirst (normal_form normal.now) every since first seconds.now.edges blocks.old.items blocks.new.items) }
-{
-    if !every && since <= first.birth {
+    let run = run_of(row, label);
+    if run.is_empty() {
         return Ok(());
     }
-    let row = seconds.row(first.edge.dst.0);
-    add_row(normal, first.edge.label, row, blocks)?;
+    add_run(normal, first, label, run, blocks)?;
     Ok(())
 }
 
-/// Adds the blocks of first edges, each with the row of its end: of every first edge, or of those born before a birth.
-fn add_rows<'a>(
+/// Adds the blocks of a first label and the row behind it. All labels that join behind the first one are given.
+pub(crate) fn add_row<'a>(
     normal: &Normal,
-    firsts: &[Born],
-    every: bool,
-    since: u64,
-    seconds: &'a Rows,
+    first: LabelId,
+    labels: &[LabelId],
+    row: &'a [Born],
     blocks: &mut Vec<Block<'a>>,
 ) -> Result<(), AllocError>
-    ensures { OnOk result (AddsRows (normal_form normal.now) every since firsts.now seconds.now.edges blocks.old.items blocks.new.items) }
+    requires row { LabelsAscend row.now }
+    requires labels { AreSeconds (normal_form normal.now) first labels.now }
+    ensures { OnOk result (AddsJoins (normal_form normal.now) first row.now blocks.old.items blocks.new.items) }
+{
+    for label in labels {
+        add_second(normal, first, *label, row, blocks)?;
+    }
+    Ok(())
+}
+
+/// What a search for joins needs of the first and the second edges.
+#[derive(Clone, Copy)]
+struct Seconds<'a> {
+    normal: &'a Normal,
+    rows: &'a Rows,
+    /// Whether every first edge counts, or those alone that are born before `since`.
+    every: bool,
+    since: u64,
+}
+
+/// Whether a first edge counts: if every one does, or it is born before `since`.
+fn counts(every: bool, first: Born, since: u64) -> bool
+    ensures { IsTrue result ↔ Counts every since first }
+{
+    every || first.birth < since
+}
+
+/// Adds the blocks of a first edge with the row of its end, if it counts.
+fn add_first<'a>(
+    seconds: &Seconds<'a>,
+    first: Born,
+    labels: &[LabelId],
+    blocks: &mut Vec<Block<'a>>,
+) -> Result<(), AllocError>
+    requires { AreSeconds (normal_form seconds.now.normal.now) first.edge.label labels.now }
+    ensures { OnOk result (AddsFirst (normal_form seconds.now.normal.now) seconds.now.every seconds.now.since first seconds.now.rows.now.edges blocks.old.items blocks.new.items) }
+{
+    if !counts(seconds.every, first, seconds.since) {
+        return Ok(());
+    }
+    let row = seconds.rows.row(first.edge.dst.0);
+    if row.is_empty() {
+        return Ok(());
+    }
+    add_row(seconds.normal, first.edge.label, labels, row, blocks)?;
+    Ok(())
+}
+
+/// Adds the blocks of first edges of one label, each with the row of its end.
+fn add_firsts<'a>(
+    seconds: &Seconds<'a>,
+    firsts: &[Born],
+    label: LabelId,
+    labels: &[LabelId],
+    blocks: &mut Vec<Block<'a>>,
+) -> Result<(), AllocError>
+    requires run { All (λ b. b.edge.label ≡ label) firsts.now }
+    requires labels { AreSeconds (normal_form seconds.now.normal.now) label labels.now }
+    ensures { OnOk result (AddsRows (normal_form seconds.now.normal.now) seconds.now.every seconds.now.since firsts.now seconds.now.rows.now.edges blocks.old.items blocks.new.items) }
 {
     for born in firsts {
-        add_first(normal, *born, every, since, seconds, blocks)?;
+        add_first(seconds, *born, labels, blocks)?;
+    }
+    Ok(())
+}
+
+/// The same, or nothing where no label joins behind the first edges' label.
+fn add_firsts_if<'a>(
+    seconds: &Seconds<'a>,
+    firsts: &[Born],
+    label: LabelId,
+    labels: &[LabelId],
+    blocks: &mut Vec<Block<'a>>,
+) -> Result<(), AllocError>
+    requires run { All (λ b. b.edge.label ≡ label) firsts.now }
+    requires labels { AreSeconds (normal_form seconds.now.normal.now) label labels.now }
+    ensures { OnOk result (AddsRows (normal_form seconds.now.normal.now) seconds.now.every seconds.now.since firsts.now seconds.now.rows.now.edges blocks.old.items blocks.new.items) }
+{
+    if labels.is_empty() {
+        return Ok(());
+    }
+    add_firsts(seconds, firsts, label, labels, blocks)?;
+    Ok(())
+}
+
+/// Adds the blocks of first edges, each with the row of its end, run after run.
+fn add_rows<'a>(
+    seconds: &Seconds<'a>,
+    firsts: &[Born],
+    labels: &mut Vec<LabelId>,
+    blocks: &mut Vec<Block<'a>>,
+) -> Result<(), AllocError>
+    requires { LabelsAscend firsts.now }
+    ensures { OnOk result (AddsRows (normal_form seconds.now.normal.now) seconds.now.every seconds.now.since firsts.now seconds.now.rows.now.edges blocks.old.items blocks.new.items) }
+{
+    let mut start = 0;
+    while start < firsts.len() {
+        let label = firsts[start].edge.label;
+        let end = run_end(firsts, start, label);
+        labels.clear();
+        seconds.normal.seconds(label, labels)?;
+        add_firsts_if(seconds, part(firsts, start, end), label, labels, blocks)?;
+        start = end;
     }
     Ok(())
 }
@@ -119,18 +226,31 @@ fn add_rows<'a>(
 /// Sets the blocks to those of a vertex: each new edge from there with each edge behind, and each old one with each
 /// new edge behind.
 pub(crate) fn set_blocks<'a>(
-    normal: &Normal,
+    normal: &'a Normal,
     rows: &'a Rows,
     newer: &'a Rows,
     since: u64,
     vertex: Vertex,
+    labels: &mut Vec<LabelId>,
     blocks: &mut Vec<Block<'a>>,
 ) -> Result<(), AllocError>
     requires { newer.now ≡ newer_of since rows.now }
-    ensures { OnOk result (GivesJoins (normal_form normal.now) rows.now.edges since vertex blocks.new.items) }
+    ensures { OnOk result (GivesJoins (IsJoinOf (normal_form normal.now) rows.now.edges since) vertex blocks.new.items) }
 {
     blocks.clear();
-    add_rows(normal, newer.row(vertex.0), true, since, rows, blocks)?;
-    add_rows(normal, rows.row(vertex.0), false, since, newer, blocks)?;
+    let with_all = Seconds {
+        normal,
+        rows,
+        every: true,
+        since,
+    };
+    add_rows(&with_all, newer.row(vertex.0), labels, blocks)?;
+    let with_newer = Seconds {
+        normal,
+        rows: newer,
+        every: false,
+        since,
+    };
+    add_rows(&with_newer, rows.row(vertex.0), labels, blocks)?;
     Ok(())
 }

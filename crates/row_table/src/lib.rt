@@ -2,6 +2,8 @@
 #![tactic(auto)]
 
 mod blocks;
+mod centre_joins;
+mod centres;
 mod merging;
 mod round;
 mod row_starts;

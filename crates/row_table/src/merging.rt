@@ -76,10 +76,7 @@ pub(crate) fn merged(
     for edge in new {
         let end = place_of(edges, place, *edge);
         all.extend_from_slice(&edges[place..end])?;
-        all.push(Born {
-            edge: *edge,
-            birth,
-        })?;
+        all.push(Born { edge: *edge, birth })?;
         place = end;
     }
     all.extend_from_slice(&edges[place..])?;

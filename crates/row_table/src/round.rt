@@ -3,13 +3,13 @@ ghost use Rattle.std.specs.Prelude.{◌≡◌, ◌≤◌, IfSome, IfOk, OnOk};
 ghost use Rattle.normal_law.specs.NormalForm.{normal_form};
 ghost use Rattle.closing_machine.specs.Rounds.{IsRound};
 ghost use Rattle.row_table.specs.Loaded.{LiesIn, LiesInHigh, newer_of};
-ghost use Rattle.row_table.specs.Joined.{AppendsJoins};
+ghost use Rattle.row_table.specs.Joined.{AppendsJoins, IsJoinOf};
 
 use crate::blocks::{Block, set_blocks};
 use crate::rows::Rows;
 use crate::sieve::Sieve;
 use crate::span::Span;
-use graph_words::{Edge, EdgeList, Vertex};
+use graph_words::{Edge, EdgeList, LabelId, Vertex};
 use normal_form::Normal;
 use std::alloc::{AllocError, Global};
 
@@ -26,12 +26,13 @@ struct Snapshot<'a> {
 fn join_vertex<'a>(
     snapshot: &Snapshot<'a>,
     vertex: Vertex,
+    labels: &mut Vec<LabelId>,
     blocks: &mut Vec<Block<'a>>,
     sieve: &mut Sieve,
     out: &mut Vec<Edge>,
 ) -> Result<(), AllocError>
     requires { snapshot.now.newer.now ≡ newer_of snapshot.now.since snapshot.now.rows.now }
-    ensures { OnOk result (AppendsJoins (normal_form snapshot.now.normal.now) snapshot.now.rows.now.edges snapshot.now.since (λ v. v ≡ vertex.0) out.old.items out.new.items) }
+    ensures { OnOk result (AppendsJoins snapshot.now.rows.now.edges (IsJoinOf (normal_form snapshot.now.normal.now) snapshot.now.rows.now.edges snapshot.now.since) (λ v. v ≡ vertex.0) out.old.items out.new.items) }
 {
     set_blocks(
         snapshot.normal,
@@ -39,6 +40,7 @@ fn join_vertex<'a>(
         snapshot.newer,
         snapshot.since,
         vertex,
+        labels,
         blocks,
     )?;
     sieve.join_row(vertex, snapshot.rows.row(vertex.0), blocks, out)?;
@@ -49,16 +51,17 @@ fn join_vertex<'a>(
 fn join_span<'a>(
     snapshot: &Snapshot<'a>,
     span: Span,
+    labels: &mut Vec<LabelId>,
     blocks: &mut Vec<Block<'a>>,
     sieve: &mut Sieve,
     out: &mut Vec<Edge>,
 ) -> Result<(), AllocError>
     requires newer { snapshot.now.newer.now ≡ newer_of snapshot.now.since snapshot.now.rows.now }
     requires bounds { span.lo ≤ span.hi }
-    ensures { OnOk result (AppendsJoins (normal_form snapshot.now.normal.now) snapshot.now.rows.now.edges snapshot.now.since (LiesIn span) out.old.items out.new.items) }
+    ensures { OnOk result (AppendsJoins snapshot.now.rows.now.edges (IsJoinOf (normal_form snapshot.now.normal.now) snapshot.now.rows.now.edges snapshot.now.since) (LiesIn span) out.old.items out.new.items) }
 {
     for vertex in span.lo..span.hi {
-        join_vertex(snapshot, Vertex(vertex), blocks, sieve, out)?;
+        join_vertex(snapshot, Vertex(vertex), labels, blocks, sieve, out)?;
     }
     Ok(())
 }
@@ -67,18 +70,19 @@ fn join_span<'a>(
 fn join_high<'a>(
     snapshot: &Snapshot<'a>,
     high: Option<Span>,
+    labels: &mut Vec<LabelId>,
     blocks: &mut Vec<Block<'a>>,
     sieve: &mut Sieve,
     out: &mut Vec<Edge>,
 ) -> Result<(), AllocError>
     requires newer { snapshot.now.newer.now ≡ newer_of snapshot.now.since snapshot.now.rows.now }
     requires bounds { IfSome high (λ s. s.lo ≤ s.hi) }
-    ensures { OnOk result (AppendsJoins (normal_form snapshot.now.normal.now) snapshot.now.rows.now.edges snapshot.now.since (LiesInHigh high) out.old.items out.new.items) }
+    ensures { OnOk result (AppendsJoins snapshot.now.rows.now.edges (IsJoinOf (normal_form snapshot.now.normal.now) snapshot.now.rows.now.edges snapshot.now.since) (LiesInHigh high) out.old.items out.new.items) }
 {
     match high {
         None => Ok(()),
         Some(span) => {
-            join_span(snapshot, span, blocks, sieve, out)?;
+            join_span(snapshot, span, labels, blocks, sieve, out)?;
             Ok(())
         }
     }
@@ -90,12 +94,7 @@ impl Rows {
     ///
     /// The round goes row by row, so that its edges come out in order: for each vertex, each new edge from there with
     /// the row of its end, and each old edge with the new edges of that row.
-    pub fn joins(
-        &self,
-        alloc: Global,
-        normal: &Normal,
-        since: u64,
-    ) -> Result<EdgeList, AllocError>
+    pub fn joins(&self, alloc: Global, normal: &Normal, since: u64) -> Result<EdgeList, AllocError>
         ensures { IfOk result (IsRound (normal_form normal.now) self.now.edges since) }
     {
         let newer = self.newer(since)?;
@@ -105,12 +104,27 @@ impl Rows {
             normal,
             since,
         };
+        let mut labels = Vec::new(alloc);
         let mut blocks = Vec::new(alloc);
         let mut sieve = Sieve::new(alloc);
         let mut out = Vec::new(alloc);
         let (low, high) = self.spans();
-        join_span(&snapshot, low, &mut blocks, &mut sieve, &mut out)?;
-        join_high(&snapshot, high, &mut blocks, &mut sieve, &mut out)?;
+        join_span(
+            &snapshot,
+            low,
+            &mut labels,
+            &mut blocks,
+            &mut sieve,
+            &mut out,
+        )?;
+        join_high(
+            &snapshot,
+            high,
+            &mut labels,
+            &mut blocks,
+            &mut sieve,
+            &mut out,
+        )?;
         Ok(EdgeList::from_vec(out))
     }
 }

@@ -22,11 +22,7 @@ fn place_from(edges: &[Born], mut place: usize, vertex: u32) -> usize
 }
 
 /// How many edges begin before each vertex of the interval, and before the vertex behind it. One pass over the edges.
-pub(crate) fn starts_of(
-    alloc: Global,
-    edges: &[Born],
-    span: Span,
-) -> Result<Vec<usize>, AllocError>
+pub(crate) fn starts_of(alloc: Global, edges: &[Born], span: Span) -> Result<Vec<usize>, AllocError>
     requires ordered { IsOrdered edges.now }
     requires bounds { span.lo ≤ span.hi }
     ensures { IfOk result (λ starts. AreStarts edges.now span starts.items) }
@@ -51,12 +47,7 @@ pub(crate) fn part(edges: &[Born], start: usize, end: usize) -> &[Born]
 }
 
 /// The row of a vertex of the interval: the edges that begin there.
-pub(crate) fn row_in<'a>(
-    edges: &'a [Born],
-    span: Span,
-    starts: &[usize],
-    vertex: u32,
-) -> &'a [Born]
+pub(crate) fn row_in<'a>(edges: &'a [Born], span: Span, starts: &[usize], vertex: u32) -> &'a [Born]
     requires starts { AreStarts edges.now span starts.now }
     requires vertex { LiesIn span vertex }
     ensures { result.now ≡ row_of vertex edges.now }

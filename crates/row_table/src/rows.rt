@@ -76,7 +76,7 @@ fn two_parts(
 }
 
 /// The edges that were born at or after a birth.
-fn born_since(alloc: Global, edges: &[Born], since: u64) -> Result<Vec<Born>, AllocError>
+pub(crate) fn born_since(alloc: Global, edges: &[Born], since: u64) -> Result<Vec<Born>, AllocError>
     ensures { IfOk result (λ v. v.items ≡ newer_edges since edges.now) }
 {
     let mut newer = Vec::new(alloc);

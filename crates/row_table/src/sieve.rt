@@ -13,7 +13,7 @@ use std::alloc::{AllocError, Global};
 const LABELS: u32 = 65_536;
 
 /// Puts the ends of the edges into the set.
-fn mark_run(run: &[Born], ends: &mut VertexSet) -> Result<(), AllocError>
+pub(crate) fn mark_run(run: &[Born], ends: &mut VertexSet) -> Result<(), AllocError>
     ensures { OnOk result (MarksEnds (EndsHere run.now) ends.old ends.new) }
 {
     for born in run {
@@ -55,11 +55,7 @@ fn mark_ends(row: &[Born], label: LabelId, ends: &mut VertexSet) -> Result<(), A
 }
 
 /// Puts the ends of the edges to those found, each that is not in the set yet.
-fn sift_run(
-    run: &[Born],
-    ends: &mut VertexSet,
-    found: &mut Vec<u32>,
-) -> Result<(), AllocError>
+fn sift_run(run: &[Born], ends: &mut VertexSet, found: &mut Vec<u32>) -> Result<(), AllocError>
     ensures { OnOk result (Sifts (EndsHere run.now) ends.old ends.new found.old.items found.new.items) }
 {
     for second in run {
@@ -69,11 +65,7 @@ fn sift_run(
 }
 
 /// Puts an end to those found, unless it is in the set.
-fn sift_end(
-    end: Vertex,
-    ends: &mut VertexSet,
-    found: &mut Vec<u32>,
-) -> Result<(), AllocError>
+fn sift_end(end: Vertex, ends: &mut VertexSet, found: &mut Vec<u32>) -> Result<(), AllocError>
     ensures { OnOk result (Sifts (λ w. w ≡ end.0) ends.old ends.new found.old.items found.new.items) }
 {
     let new = ends.add(end)?;

@@ -1,14 +1,14 @@
 use Rattle.normal_law.specs.NormalForm.{normal_form}
-use Rattle.std.proofs.Common.{◌≡◌, ◌<◌, ◌≤◌, length, arith, sym, subst}
-use Rattle.std.proofs.lemmas.List.{take_all}
-use Rattle.row_table.specs.Joined.{AddsJoins}
-use Rattle.row_table.proofs.BlockLemmas.{joins_more}
+use Rattle.row_table.proofs.BlockLemmas.{some_none, some_more, some_all}
 use Rattle.row_table.proofs.blocks.add_row.Goals as goal
 
-pub loop-start-preserved : goal.loop-start-preserved
-loop-start-preserved c =
-    let lt : c.loop-start.start < c.run_end-end.result = c.run_end-end.ensures.some in
-    (c.run_end-end.ensures.within, joins_more (normal_form c.args.normal.now) c.args.first c.args.row.now c.loop-start.start c.run_end-end.result c.args.blocks.now.items c.loop-start.blocks.items _ (omega arith) c.loop-start.invariant.1 (rw c.part.ensures at c.in_ok-add_run.ensures))
+pub loop-label-init : goal.loop-label-init
+loop-label-init c = some_none (normal_form c.args.normal.now) c.args.first c.args.row.now c.args.blocks.now.items
+
+pub loop-label-preserved : goal.loop-label-preserved
+loop-label-preserved c =
+    some_more (normal_form c.args.normal.now) c.args.first c.args.row.now c.args.labels.now c.loop-label.label-index _ c.args.blocks.now.items c.loop-label.blocks.items _ c.loop-label-test.true c.loop-label.invariant c.in_ok-add_second.ensures
 
 pub returns : goal.returns
-returns c = rw (take_all c.loop-start.start c.args.row.now c.loop-start-test.false) at c.loop-start.invariant.1
+returns c =
+    some_all (normal_form c.args.normal.now) c.args.first c.args.row.now c.args.labels.now c.loop-label.label-index c.args.blocks.now.items c.loop-label.blocks.items c.requires.labels c.loop-label-test.false c.loop-label.invariant

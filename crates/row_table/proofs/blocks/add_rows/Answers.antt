@@ -1,10 +1,16 @@
-use Rattle.normal_law.specs.NormalForm.{normal_form}
+use Rattle.std.proofs.Common.{◌<◌, arith}
 use Rattle.std.proofs.lemmas.List.{take_all}
-use Rattle.row_table.proofs.BlockLemmas.{firsts_more}
+use Rattle.normal_law.specs.NormalForm.{normal_form}
+use Rattle.row_table.proofs.BlockLemmas.{firsts_run}
 use Rattle.row_table.proofs.blocks.add_rows.Goals as goal
 
-pub loop-born-preserved : goal.loop-born-preserved
-loop-born-preserved c = firsts_more (normal_form c.args.normal.now) c.args.every c.args.since c.args.firsts.now c.args.seconds.now.edges c.loop-born.born-index _ c.args.blocks.now.items c.loop-born.blocks.items _ c.loop-born-test.true c.loop-born.invariant c.in_ok-add_first.ensures
+pub add_firsts_if-requires-clause-labels : goal.add_firsts_if-requires-clause-labels
+add_firsts_if-requires-clause-labels c = rw c.deref.ensures.value c.in_ok-seconds.ensures
+
+pub loop-start-preserved : goal.loop-start-preserved
+loop-start-preserved c =
+    let lt : c.loop-start.start < c.run_end-end.result = c.run_end-end.ensures.some in
+    (c.run_end-end.ensures.within, firsts_run (normal_form c.args.seconds.now.normal.now) c.args.seconds.now.every c.args.seconds.now.since c.args.firsts.now c.args.seconds.now.rows.now.edges c.loop-start.start c.run_end-end.result c.args.blocks.now.items c.loop-start.blocks.items _ (omega arith) c.loop-start.invariant.1 (rw c.part.ensures at c.in_ok-add_firsts_if.ensures))
 
 pub returns : goal.returns
-returns c = rw (take_all c.loop-born.born-index c.args.firsts.now c.loop-born-test.false) at c.loop-born.invariant
+returns c = rw (take_all c.loop-start.start c.args.firsts.now c.loop-start-test.false) at c.loop-start.invariant.1

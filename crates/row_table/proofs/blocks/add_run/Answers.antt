@@ -1,6 +1,6 @@
 use Rattle.normal_law.specs.NormalForm.{normal_form}
 use Rattle.std.proofs.Common.{refl}
-use Rattle.row_table.proofs.BlockLemmas.{labels_none, labels_more, labels_all}
+use Rattle.row_table.proofs.BlockLemmas.{labels_more, labels_all}
 use Rattle.row_table.proofs.blocks.add_run.Goals as goal
 
 pub loop-joined-preserved : goal.loop-joined-preserved

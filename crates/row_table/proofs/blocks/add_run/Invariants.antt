@@ -1,9 +1,4 @@
-use Rattle.std.proofs.Common.{◌≡◌, ◌↔◌, ◌⊎◌, List, take}
-use Rattle.std.specs.Prelude.{Contains}
-use Rattle.graph_words.specs.declared.types.Vertex.{Vertex}
-use Rattle.graph_words.specs.declared.types.LabelId.{LabelId}
-use Rattle.graph_words.specs.declared.types.Born.{Born}
-use Rattle.row_table.specs.Joined.{Gives}
+use Rattle.std.proofs.Common.{take}
 use Rattle.row_table.proofs.BlockLemmas.{GivesLabels}
 use Rattle.row_table.proofs.blocks.add_run.Given as goal
 

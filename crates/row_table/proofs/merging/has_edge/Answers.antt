@@ -1,4 +1,4 @@
-use Rattle.std.proofs.Common.{◌≡◌, ◌<◌, length, arith, sym, ap, ◌∙◌}
+use Rattle.std.proofs.Common.{◌<◌, length, arith}
 use Rattle.row_table.proofs.RowLemmas.{some_born}
 use Rattle.row_table.proofs.SearchLemmas.{there, not_there, turned}
 use Rattle.row_table.proofs.merging.has_edge.Goals as goal

@@ -1,4 +1,3 @@
-use Rattle.std.proofs.Common.{arith}
 use Rattle.std.proofs.lemmas.List.{get_or_default, take_rest}
 use Rattle.row_table.proofs.MergeLemmas.{Merging-more, Merging-end}
 use Rattle.row_table.proofs.merging.merged.Goals as goal

@@ -1,4 +1,4 @@
-use Rattle.std.proofs.Common.{◌≡◌, ◌+◌, ◌-◌, ◌/◌, ◌<◌, ◌≤◌, length, arith, refl}
+use Rattle.std.proofs.Common.{◌+◌, ◌-◌, ◌/◌, arith, refl}
 use Rattle.std.proofs.lemmas.Bool.{false≢true}
 use Rattle.row_table.proofs.RowLemmas.{some_born}
 use Rattle.row_table.proofs.SearchLemmas.{stand_up_to, none_from}

@@ -1,18 +1,18 @@
 use Rattle.std.proofs.Common.{◌≡◌, ℕ, ◌≤◌, ◌<◌, arith, subst}
 use Rattle.normal_law.specs.NormalForm.{normal_form}
 use Rattle.row_table.proofs.JoinLemmas.{vertices_none, vertices_more}
-use Rattle.row_table.specs.Joined.{AppendsJoins}
+use Rattle.row_table.specs.Joined.{AppendsJoins, IsJoinOf}
 use Rattle.row_table.proofs.round.join_span.Goals as goal
 
 pub loop-vertex-init : goal.loop-vertex-init
-loop-vertex-init c = vertices_none (normal_form c.args.snapshot.now.normal.now) c.args.snapshot.now.rows.now.edges c.args.snapshot.now.since c.args.span.lo c.args.out.now.items
+loop-vertex-init c = vertices_none c.args.snapshot.now.rows.now.edges (IsJoinOf (normal_form c.args.snapshot.now.normal.now) c.args.snapshot.now.rows.now.edges c.args.snapshot.now.since) c.args.span.lo c.args.out.now.items
 
 pub loop-vertex-preserved : goal.loop-vertex-preserved
 loop-vertex-preserved c =
-    vertices_more (normal_form c.args.snapshot.now.normal.now) c.args.snapshot.now.rows.now.edges c.args.snapshot.now.since c.args.span.lo c.loop-vertex.vertex c.args.out.now.items c.loop-vertex.out.items _ (omega arith) c.loop-vertex.invariant c.in_ok-join_vertex.ensures
+    vertices_more c.args.snapshot.now.rows.now.edges (IsJoinOf (normal_form c.args.snapshot.now.normal.now) c.args.snapshot.now.rows.now.edges c.args.snapshot.now.since) c.args.span.lo c.loop-vertex.vertex c.args.out.now.items c.loop-vertex.out.items _ (omega arith) c.loop-vertex.invariant c.in_ok-join_vertex.ensures
 
 pub returns : goal.returns
 returns c =
     let end : c.loop-vertex.vertex ≡ c.args.span.hi = (let le : c.loop-vertex.vertex ≤ c.args.span.hi = c.loop-vertex.auto.vertex-end c.requires.bounds in omega arith) in
-    let P : ℕ → Type 0 = λ w. AppendsJoins (normal_form c.args.snapshot.now.normal.now) c.args.snapshot.now.rows.now.edges c.args.snapshot.now.since (λ v. (c.args.span.lo ≤ v) × (v < w)) c.args.out.now.items c.loop-vertex.out.items in
+    let P : ℕ → Type 0 = λ w. AppendsJoins c.args.snapshot.now.rows.now.edges (IsJoinOf (normal_form c.args.snapshot.now.normal.now) c.args.snapshot.now.rows.now.edges c.args.snapshot.now.since) (λ v. (c.args.span.lo ≤ v) × (v < w)) c.args.out.now.items c.loop-vertex.out.items in
     subst P end c.loop-vertex.invariant

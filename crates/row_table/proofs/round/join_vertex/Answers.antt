@@ -1,5 +1,5 @@
-use Rattle.std.proofs.Common.{◌≡◌}
 use Rattle.normal_law.specs.NormalForm.{normal_form}
+use Rattle.row_table.specs.Joined.{IsJoinOf}
 use Rattle.row_table.proofs.BlockLemmas.{row_labels_of}
 use Rattle.row_table.proofs.JoinLemmas.{row_sources, vertex_appends}
 use Rattle.row_table.proofs.round.join_vertex.Goals as goal
@@ -12,4 +12,4 @@ join_row-requires-clause-source c = rw c.row.ensures.row (row_sources c.args.ver
 
 pub returns : goal.returns
 returns c =
-    vertex_appends (normal_form c.args.snapshot.now.normal.now) c.args.snapshot.now.rows.now.edges c.args.snapshot.now.since c.args.vertex _ _ c.deref.ensures.value c.in_ok-set_blocks.ensures c.args.out.now.items _ (rw c.row.ensures.row at c.in_ok-join_row.ensures.joins) c.in_ok-join_row.ensures.labels
+    vertex_appends c.args.snapshot.now.rows.now.edges (IsJoinOf (normal_form c.args.snapshot.now.normal.now) c.args.snapshot.now.rows.now.edges c.args.snapshot.now.since) c.args.vertex _ _ c.deref.ensures.value c.in_ok-set_blocks.ensures c.args.out.now.items _ (rw c.row.ensures.row at c.in_ok-join_row.ensures.joins) c.in_ok-join_row.ensures.labels

@@ -1,7 +1,7 @@
-use Rattle.std.proofs.Common.{◌≡◌, ◌≤◌, ◌<◌, get_or, arith, subst, ap}
+use Rattle.std.proofs.Common.{◌≤◌, subst}
 use Rattle.graph_words.specs.declared.types.Born.{Born}
 use Rattle.std.proofs.lemmas.List.{get_or_default}
-use Rattle.row_table.proofs.RowLemmas.{before_more, parts_here, parts_end, some_born}
+use Rattle.row_table.proofs.RowLemmas.{parts_here, some_born}
 use Rattle.row_table.proofs.row_starts.place_from.Goals as goal
 
 pub returns-else-edges-place : goal.returns-else-edges-place

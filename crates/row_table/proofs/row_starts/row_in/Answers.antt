@@ -1,6 +1,5 @@
-use Rattle.std.proofs.Common.{◌≡◌, ℕ, ◌+◌, ◌-◌, ◌<◌, ◌≤◌, List, length, get_or, arith, sym, subst, ◌∙◌}
+use Rattle.std.proofs.Common.{◌≡◌, ℕ, ◌+◌, ◌-◌, List, get_or, arith, subst, ◌∙◌}
 use Rattle.graph_words.specs.declared.types.Born.{Born}
-use Rattle.partition_file.specs.Spelling.{row_of}
 use Rattle.row_table.specs.declared.span.Span.{Span}
 use Rattle.row_table.specs.Index.{PartsAt, AreStarts}
 use Rattle.row_table.specs.Loaded.{LiesIn}

@@ -1,4 +1,4 @@
-use Rattle.std.proofs.Common.{◌≡◌, ℕ, ◌+◌, ◌-◌, ◌<◌, ◌≤◌, length, slice_index, vec_len}
+use Rattle.std.proofs.Common.{◌≡◌, ℕ, ◌+◌, ◌-◌, ◌<◌, length, slice_index}
 use Rattle.row_table.specs.Index.{AreBefore, PartsAt}
 use Rattle.row_table.proofs.row_starts.starts_of.Given as goal
 

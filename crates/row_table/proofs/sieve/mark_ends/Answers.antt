@@ -1,5 +1,4 @@
-use Rattle.std.proofs.Common.{◌≤◌, ◌<◌, length, arith}
-use Rattle.std.proofs.lemmas.List.{take_all}
+use Rattle.std.proofs.Common.{◌<◌, arith}
 use Rattle.row_table.proofs.SieveLemmas.{rows_more}
 use Rattle.row_table.proofs.sieve.mark_ends.Goals as goal
 

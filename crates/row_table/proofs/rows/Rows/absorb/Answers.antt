@@ -1,4 +1,3 @@
-use Rattle.std.proofs.Common.{◌≡◌, sym}
 use Rattle.row_table.proofs.LoadedLemmas.{absorbed}
 use Rattle.row_table.proofs.rows.Rows.absorb.Goals as goal
 

@@ -1,4 +1,3 @@
-use Rattle.std.proofs.Common.{◌≡◌}
 use Rattle.row_table.proofs.SearchLemmas.{row_ordered, row_has}
 use Rattle.row_table.proofs.rows.Rows.has.Goals as goal
 

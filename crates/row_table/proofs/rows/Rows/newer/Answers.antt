@@ -1,4 +1,3 @@
-use Rattle.std.proofs.Common.{sym, ◌∙◌}
 use Rattle.row_table.proofs.SearchLemmas.{newer_loaded}
 use Rattle.row_table.proofs.rows.Rows.newer.Goals as goal
 

@@ -1,4 +1,3 @@
-use Rattle.std.proofs.Common.{◌≡◌, ◌++◌, ◌≤◌, ap, ◌∙◌}
 use Rattle.row_table.proofs.LoadedLemmas.{two_given}
 use Rattle.row_table.proofs.rows.Rows.of_two.Goals as goal
 

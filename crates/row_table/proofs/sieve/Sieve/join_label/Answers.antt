@@ -1,4 +1,3 @@
-use Rattle.std.proofs.Common.{◌≡◌, ◌∙◌, map}
 use Rattle.row_table.proofs.JoinLemmas.{label_joins}
 use Rattle.row_table.proofs.sieve.Sieve.join_label.Goals as goal
 

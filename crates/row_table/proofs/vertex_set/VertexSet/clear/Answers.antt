@@ -1,4 +1,4 @@
-use Rattle.std.proofs.Common.{◌≡◌, ◌+◌, ◌<◌, length, arith}
+use Rattle.std.proofs.Common.{◌+◌, arith}
 use Rattle.row_table.proofs.SetLemmas.{none_yet}
 use Rattle.row_table.proofs.vertex_set.VertexSet.clear.Goals as goal
 

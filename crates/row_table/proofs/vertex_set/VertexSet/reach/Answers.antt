@@ -1,4 +1,4 @@
-use Rattle.std.proofs.Common.{◌≤◌, length, arith, rules}
+use Rattle.std.proofs.Common.{rules}
 use Rattle.row_table.proofs.SetLemmas.{longer_same}
 use Rattle.row_table.proofs.vertex_set.VertexSet.reach.Goals as goal
 
