@@ -34,9 +34,7 @@ fn ascend(edges: &[Edge]) -> bool
 fn fit(edges: &[Edge], vertices: u32) -> bool
     ensures { IsTrue result → All (FitsEdge vertices) edges.now }
 {
-    edges
-        .iter()
-        .all(|e| e.src.0 < vertices && e.label.0 < 63_000 && e.dst.0 < 16_777_216)
+    edges.iter().all(|e| e.src.0 < vertices && e.label.0 < 63_000 && e.dst.0 < 16_777_216)
 }
 
 /// The rows of these edges, born in round 0, and `None` where they are no such edges in order.

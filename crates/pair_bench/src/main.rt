@@ -8,8 +8,7 @@ mod reading;
 use counting::print_counts;
 use loading::load;
 use reading::{GraphText, read_graph};
-use std::env;
-use std::io;
+use std::{env, io};
 use superstep::{PairEnd, run_pair};
 
 fn main(rt: HostRuntime) -> io::Result<()> {

@@ -6,9 +6,8 @@ use io_edge::{MemInputs, NamedBytes};
 use label_table::LabelTable;
 use normal_form::{Normal, normalise};
 use std::alloc::{AllocError, Global};
-use std::fs;
-use std::io;
 use std::rt::Files;
+use std::{fs, io};
 
 /// What two files say.
 #[derive(Drop)]

@@ -14,3 +14,6 @@ mod vertex_set;
 
 pub use rows::Rows;
 pub use span::Span;
+
+#[cfg(test)]
+mod tests;

@@ -1,4 +1,4 @@
-use Rattle.std.proofs.Common.{ℕ, ◌≤◌, ◌<◌, length, arith, refl}
+use Rattle.std.proofs.Common.{◌≤◌, length, arith, refl}
 use Rattle.pair_bench.proofs.Ascending.{ascend_one, ascend_more}
 use Rattle.pair_bench.proofs.loading.ascend.Goals as goal
 

@@ -1,4 +1,4 @@
-use Rattle.std.proofs.Common.{◌≡◌, refl, ap, ◌∙◌}
+use Rattle.std.proofs.Common.{refl, ap, ◌∙◌}
 use Rattle.partition_file.specs.Spelling.{Part}
 use Rattle.row_table.specs.Loaded.{Loaded}
 use Rattle.pair_bench.proofs.Ascending.{absorbed_fit}

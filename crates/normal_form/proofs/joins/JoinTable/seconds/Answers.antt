@@ -1,7 +1,5 @@
-use Rattle.std.proofs.Common.{◌≡◌, ◌<◌, ◌≤◌, List, [], length, get_or, arith, ◌∙◌, subst, sym}
-use Rattle.std.specs.Prelude.{Contains}
-use Rattle.std.proofs.lemmas.List.{get_or_default, get_or_past}
-use Rattle.graph_words.specs.declared.types.LabelId.{LabelId}
+use Rattle.std.proofs.Common.{◌≡◌, ◌<◌, List, [], length, get_or, arith, ◌∙◌, subst, sym}
+use Rattle.std.proofs.lemmas.List.{get_or_default}
 use Rattle.normal_form.specs.declared.joins.Join.{Join}
 use Rattle.normal_form.specs.Joins.{HasJoin, HasJoinAt}
 use Rattle.normal_form.proofs.joins.JoinTable.seconds.Goals as goal
