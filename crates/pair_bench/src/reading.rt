@@ -44,7 +44,12 @@ pub(crate) fn read_graph<R: Files + AllocGlobal>(
     };
     let normal = normalise(alloc, &grammar)?;
     let vertices = last_vertex(graph.as_slice()).saturating_add(1);
-    let edges = opening(alloc, &normal, vertices, graph.as_slice())?;
+    let with_loops = if graph.as_slice().is_empty() {
+        0
+    } else {
+        vertices
+    };
+    let edges = opening(alloc, &normal, with_loops, graph.as_slice())?;
     Ok(Some(GraphText {
         table,
         normal,
