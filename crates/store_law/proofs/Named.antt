@@ -1,14 +1,15 @@
 -- The labels of two good texts are named ones.
-use Rattle.std.proofs.Common.{◌≡◌, ℕ, ◌+◌, ◌<◌, ◌≤◌, Bool, true, false, cond, not, ◌||◌, List, [], ◌∷◌, ◌++◌, length, refl, ap, sym, ◌∙◌, arith}
+use Rattle.std.proofs.Common.{◌≡◌, ℕ, ◌+◌, ◌<◌, ◌≤◌, Bool, true, false, cond, not, ◌||◌, List, [], ◌∷◌, ◌++◌, length, refl, ap, sym, ◌∙◌, arith, Some}
 use Rattle.std.specs.Prelude.{All, Contains, map}
 use Rattle.std.specs.List.{filter_map, flat_map, list_any}
 use Rattle.std.specs.Cmp.Lexicographic.{other_text, same_text}
-use Rattle.std.proofs.lemmas.List.Folds.{list_any_at}
+use Rattle.std.proofs.lemmas.Option.{slice_get-get_or}
 use Rattle.std.proofs.lemmas.List.Elements.{All-nil, All-cons, Contains-append_left, Contains-append_right}
 use Rattle.graph_words.specs.declared.types.Edge.{Edge}
 use Rattle.graph_words.specs.declared.types.Rule.{Rule}
 use Rattle.graph_words.specs.Text.{distinct, place_of, said, same_name, third}
 use Rattle.graph_words.proofs.NameLemmas.{any-distinct}
+use Rattle.label_table.proofs.TableLemmas.{has_name-there}
 use Rattle.io_edge.specs.Lines.{lines}
 use Rattle.edge_text.specs.EdgesText.{edge_of_words, edges_of}
 use Rattle.edge_text.proofs.GraphLemmas.{IsGraph-with_count}
@@ -18,13 +19,6 @@ use Rattle.normal_law.proofs.Chains.{IsNormalForm-normal_form}
 use Rattle.closing_machine.specs.Holds.{IsTask}
 use Rattle.store_law.specs.Texts.{Texts, graph, names_of, normal, rules}
 
-same_itself : (x : List ℕ) → same_name x x ≡ true
-same_itself x = go (same_name x x) refl
-  where
-    go : (b : Bool) → same_name x x ≡ b → same_name x x ≡ true
-    go true e = e
-    go false e = absurd (other_text x x (sym e) refl)
-
 -- a name among others has a number below how many there are
 place_below : (x : List ℕ) (names : List (List ℕ)) → list_any (λ z. same_name z x) names ≡ true → place_of names x < length names
 place_below x [] h = absurd (cc)
@@ -32,7 +26,7 @@ place_below x (y ∷ ys) h = go (same_name x y) refl (place_below x ys)
   where
     turned : (b : Bool) → same_name x y ≡ false → same_name y x ≡ b → same_name y x ≡ false
     turned false e q = q
-    turned true e q = let same = same_text y x (sym q) in absurd (let n = sym e ∙ ap (λ z. same_name x z) same ∙ same_itself x in cc)
+    turned true e q = absurd (other_text x y (sym e) (sym (same_text y x (sym q))))
 
     go : (b : Bool) → same_name x y ≡ b → (list_any (λ z. same_name z x) ys ≡ true → place_of ys x < length ys) → place_of (y ∷ ys) x < length (y ∷ ys)
     go true e later = let first : place_of (y ∷ ys) x ≡ 0 = ap (λ t. cond (not t) (1 + place_of ys x) 0) e in omega arith
@@ -45,7 +39,7 @@ place_below x (y ∷ ys) h = go (same_name x y) refl (place_below x ys)
 -- a name that occurs has a number below how many distinct ones there are
 number_below : (all : List (List ℕ)) (x : List ℕ) → Contains all x → place_of (distinct all) x < length (distinct all)
 number_below all x m =
-    place_below x (distinct all) (any-distinct x all ∙ list_any_at (λ z. same_name z x) all m.0 x m.1 (ap (λ z. same_name z x) m.2 ∙ same_itself x))
+    place_below x (distinct all) (any-distinct x all ∙ has_name-there all x m.0 (slice_get-get_or all m.0 x m.1 ∙ ap Some m.2))
 
 -- a label whose name occurs is a named one
 label_named : (all : List (List ℕ)) (x : List ℕ) → length (distinct all) ≤ 1000 → Contains all x → IsNamed (label_of (distinct all) x)
