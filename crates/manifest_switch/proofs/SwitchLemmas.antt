@@ -49,8 +49,9 @@ module _ (s : Slot) (m : Manifest) (bytes : List ℕ) (says : Says bytes m) (d e
         follows = succeeds_same s m d x (just (file_of (other s)) ∙ same_other shuts writes) follows;
       }
 
-  pub switched : (y x c : Contents) → ((f : ℕ) → x f ≡ e2 f) → Shuts → Writes → Keeps s y x → Opens s x c → Switches m y c
-  switched y x c just shuts writes k o = keeps_opens s m y x c (ap body (just (file_of s)) ∙ body_there shuts writes) k o
+  pub switched : (y x c : Contents) → ((f : ℕ) → x f ≡ e2 f) → Shuts → Writes → Keeps s y x → Opens s x c → Switches d m y c
+  switched y x c just shuts writes k o =
+      keeps_opens s m d y x c (ap body (just (file_of s)) ∙ body_there shuts writes) (λ f apart. just f ∙ writes.others f apart ∙ shuts.others f apart) k o
 
   pub is_placed : Shuts → Writes → Turns → IsPlaced s m d e3
   is_placed shuts writes turns =
