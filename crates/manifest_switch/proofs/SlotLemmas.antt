@@ -9,7 +9,7 @@ use Rattle.disk_model.specs.Sound.{length-written, written-here, written-above}
 use Rattle.manifest.specs.declared.types.Manifest.{Manifest}
 use Rattle.manifest.specs.declared.types.ManifestFault.{ManifestFault}
 use Rattle.manifest_switch.specs.Slots.{file_of, other, is_open, open_body, body, chosen, current_of, later_of, next_generation, is_loose, with_closed_gate, IsClosed}
-use Rattle.manifest_switch.specs.Steps.{MayClose, Keeps, Succeeds, IsReady, Opens, Switches}
+use Rattle.manifest_switch.specs.Steps.{MayClose, Keeps, Succeeds, IsReady, Opens, Stays, Switches}
 use Rattle.manifest_switch.specs.declared.slot.Slot.{Slot}
 use Rattle.manifest_switch.specs.declared.slot.Slot.TheVariants.{Zero, One}
 use Rattle.manifest_switch.specs.declared.slot.Found.{Found}
@@ -274,26 +274,24 @@ apart_of : (s : Slot) (f : ℕ) → f ≢ 0 → f ≢ 1 → f ≢ file_of s
 apart_of Zero f zero_not one_not = zero_not
 apart_of One f zero_not one_not = one_not
 
-pub keeps_switches : (s : Slot) (m : Manifest) (d c : Contents) → Keeps s d c → Switches m d c
-keeps_switches s m d c k = record { becomes = inl k.same; others = λ f p q. k.others f (apart_of s f p q) }
+pub keeps_stays : (s : Slot) (d c : Contents) → Keeps s d c → Stays d c
+keeps_stays s d c k = record { same = k.same; others = λ f p q. k.others f (apart_of s f p q) }
 
-pub keeps_opens : (s : Slot) (m : Manifest) (d x c : Contents) → body (x (file_of s)) ≡ Ok m → Keeps s d x → Opens s x c → Switches m d c
-keeps_opens s m d x c is k o =
-    record {
-      becomes = elim o.becomes [
-        | inl same ↦ inl (same ∙ k.same)
-        | inr new ↦ inr (s, new.2 ∙ ap (λ (r : Result Manifest ManifestFault). at_slot r) (sym new.1 ∙ is))
-      ];
-      others = λ f p q. o.others f (apart_of s f p q) ∙ k.others f (apart_of s f p q);
-    }
+-- a gate is opened behind a sync, where all files but this slot's are as a read gave them at first
+pub keeps_opens : (s : Slot) (m : Manifest) (seen d x c : Contents) → body (x (file_of s)) ≡ Ok m → ((f : ℕ) → f ≢ file_of s → x f ≡ seen f) → Keeps s d x → Opens s x c → Switches seen m d c
+keeps_opens s m seen d x c is synced k o = elim o.becomes [
+  | inl same ↦ inl (record { same = same ∙ k.same; others = λ f p q. o.others f (apart_of s f p q) ∙ k.others f (apart_of s f p q) })
+  | inr new ↦ inr (record {
+      slot = s;
+      current = new.2 ∙ ap (λ (r : Result Manifest ManifestFault). at_slot r) (sym new.1 ∙ is);
+      others = λ f p q. o.others f (apart_of s f p q) ∙ synced f (apart_of s f p q);
+    })
+]
   where
     at_slot : Result Manifest ManifestFault → Result Found OpenFault
     at_slot (Ok x) = Ok (At s x)
     at_slot (Err f) = Ok (At s m)
 
-pub switches_keeps : (s : Slot) (m : Manifest) (d x c : Contents) → Switches m d x → Keeps s x c → Switches m d c
-switches_keeps s m d x c w k =
-    record {
-      becomes = elim w.becomes [ inl same ↦ inl (k.same ∙ same) | inr new ↦ inr (new.0, k.same ∙ new.1) ];
-      others = λ f p q. k.others f (apart_of s f p q) ∙ w.others f p q;
-    }
+pub switches_keeps : (s : Slot) (m : Manifest) (seen d x c : Contents) → Switches seen m d x → Keeps s x c → Switches seen m d c
+switches_keeps s m seen d x c (inl stays) k = inl (record { same = k.same ∙ stays.same; others = λ f p q. k.others f (apart_of s f p q) ∙ stays.others f p q })
+switches_keeps s m seen d x c (inr made) k = inr (record { slot = made.slot; current = k.same ∙ made.current; others = λ f p q. k.others f (apart_of s f p q) ∙ made.others f p q })

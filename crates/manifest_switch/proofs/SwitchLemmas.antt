@@ -1,16 +1,16 @@
 -- The parts of a commit one after another, by what a read gives.
 use Rattle.std.proofs.Common.{◌≡◌, ◌≢◌, inr, ℕ, List, [], ◌∷◌, slice_index, sym, ◌∙◌, ap, subst, arith}
-use Rattle.std.specs.Prelude.{false, Ok}
+use Rattle.std.specs.Prelude.{false, Some, Ok}
 use Rattle.disk_model.specs.Disk.{Contents, Sets, written}
 use Rattle.disk_model.specs.Sound.{written-below, written-lengths}
 use Rattle.manifest.specs.declared.types.Manifest.{Manifest}
-use Rattle.manifest_switch.specs.Slots.{file_of, other, is_open, open_body, body, next_generation, with_closed_gate, IsClosed, HasOnly}
+use Rattle.manifest_switch.specs.Slots.{file_of, other, is_open, open_body, body, current_of, next_generation, with_closed_gate, IsClosed, HasOnly}
 use Rattle.manifest_switch.specs.Steps.{MayClose, Keeps, Opens, Switches, Succeeds, IsReady, IsPlaced, IsSwitched}
 use Rattle.manifest_switch.specs.declared.slot.Slot.{Slot}
 use Rattle.manifest_switch.specs.declared.slot.Slot.TheVariants.{Zero, One}
 use Rattle.manifest_switch.specs.declared.slot.Found.TheVariants.{At}
 use Rattle.manifest_switch.proofs.CodecLemmas.{Says, staged-body}
-use Rattle.manifest_switch.proofs.SlotLemmas.{closed_gate, closed-shut, opened, other_apart, other_twice, current_if_follows, succeeds_same, keeps_opens}
+use Rattle.manifest_switch.proofs.SlotLemmas.{closed_gate, closed-shut, opened, other_apart, other_twice, current_if_follows, succeeds_same, keeps_closed, keeps_opens}
 
 staged-closed : (file bytes : List ℕ) → IsClosed file → IsClosed (written file 1 bytes)
 staged-closed file bytes closed =
@@ -49,8 +49,9 @@ module _ (s : Slot) (m : Manifest) (bytes : List ℕ) (says : Says bytes m) (d e
         follows = succeeds_same s m d x (just (file_of (other s)) ∙ same_other shuts writes) follows;
       }
 
-  pub switched : (y x c : Contents) → ((f : ℕ) → x f ≡ e2 f) → Shuts → Writes → Keeps s y x → Opens s x c → Switches m y c
-  switched y x c just shuts writes k o = keeps_opens s m y x c (ap body (just (file_of s)) ∙ body_there shuts writes) k o
+  pub switched : (y x c : Contents) → ((f : ℕ) → x f ≡ e2 f) → Shuts → Writes → Keeps s y x → Opens s x c → Switches d m y c
+  switched y x c just shuts writes k o =
+      keeps_opens s m d y x c (ap body (just (file_of s)) ∙ body_there shuts writes) (λ f apart. just f ∙ writes.others f apart ∙ shuts.others f apart) k o
 
   pub is_placed : Shuts → Writes → Turns → IsPlaced s m d e3
   is_placed shuts writes turns =
@@ -58,6 +59,21 @@ module _ (s : Slot) (m : Manifest) (bytes : List ℕ) (says : Says bytes m) (d e
         here = ap open_body turns.here ∙ opened (e2 (file_of s)) m (body_there shuts writes);
         others = λ f apart. turns.others f apart ∙ writes.others f apart ∙ shuts.others f apart;
       }
+
+-- ---- the slot beside an open one is closed
+
+closes : (t : Slot) (d c : Contents) → Sets (file_of t) (with_closed_gate (d (file_of t))) d c → is_open (c (file_of t)) ≡ false
+closes t d c shuts = ap is_open shuts.here ∙ closed-shut (with_closed_gate (d (file_of t))) (closed_gate (d (file_of t)))
+
+pub shut_beside : (s : Slot) (m : Manifest) (d c : Contents) → open_body (d (file_of s)) ≡ Some (Ok m) → Sets (file_of (other s)) (with_closed_gate (d (file_of (other s)))) d c → HasOnly s m c
+shut_beside s m d c here shuts = record { here = ap open_body (shuts.others (file_of s) (λ same. other_apart s (sym same))) ∙ here; none_else = closes (other s) d c shuts }
+
+-- the current one may stay the only open one
+pub may_close_other : (s : Slot) (m : Manifest) (c : Contents) → current_of c ≡ Ok (At s m) → MayClose (other s) c
+may_close_other s m c is = inr (m, is ∙ ap (λ (t : Slot). Ok (At t m)) (sym (other_twice s)))
+
+pub closing_keeps : (t : Slot) (d c : Contents) → MayClose t d → Sets (file_of t) (with_closed_gate (d (file_of t))) d c → Keeps t d c
+closing_keeps t d c may shuts = keeps_closed t d c may (closes t d c shuts) shuts.others
 
 -- ---- the old slot is closed
 
@@ -76,11 +92,7 @@ module _ (s : Slot) (m : Manifest) (d e : Contents) (placed : IsPlaced s m d e) 
       )
 
   pub only_one : (x : Contents) → Sets (file_of (other s)) (with_closed_gate (e (file_of (other s)))) e x → HasOnly s m x
-  only_one x shuts =
-      record {
-        here = ap open_body (shuts.others (file_of s) (λ same. other_apart s (sym same))) ∙ placed.here;
-        none_else = ap is_open shuts.here ∙ closed-shut (with_closed_gate (e (file_of (other s)))) (closed_gate (e (file_of (other s))));
-      }
+  only_one x shuts = shut_beside s m e x placed.here shuts
 
   apart : (f : ℕ) → f ≢ 0 → f ≢ 1 → (t : Slot) → f ≢ file_of t
   apart f p q Zero = p

@@ -1,6 +1,7 @@
 -- What the parts of a commit make of an image, and what they ask of it.
 use Rattle.std.specs.Prelude.{◌≡◌, ◌≢◌, ◌⊎◌, ℕ, false, Option, Some, None, Result, Ok, Err}
 use Rattle.disk_model.specs.Disk.{Contents, Rose}
+use Rattle.disk_model.specs.Crash.{From}
 use Rattle.manifest.specs.declared.types.Manifest.{Manifest}
 use Rattle.manifest_switch.specs.declared.slot.Slot.{Slot}
 use Rattle.manifest_switch.specs.declared.slot.Slot.TheVariants.{Zero}
@@ -34,10 +35,24 @@ pub record Opens (s : Slot) (old new : Contents) : Type 0 where
   pub becomes : (current_of new ≡ current_of old) ⊎ ((m : Manifest) × (body (old (file_of s)) ≡ Ok m) × (current_of new ≡ Ok (At s m)))
   pub others : (f : ℕ) → f ≢ file_of s → new f ≡ old f
 
--- a step that leaves what is current, or makes this manifest current, and leaves all files but the slots
-pub record Switches (m : Manifest) (old new : Contents) : Type 0 where
-  pub becomes : (current_of new ≡ current_of old) ⊎ ((s : Slot) × (current_of new ≡ Ok (At s m)))
+-- a step that leaves what is current, and all files but the slots
+pub record Stays (old new : Contents) : Type 0 where
+  pub same : current_of new ≡ current_of old
   pub others : (f : ℕ) → f ≢ 0 → f ≢ 1 → new f ≡ old f
+
+-- this manifest is current, and all files but the slots are as a read gave them
+pub record IsMade (seen : Contents) (m : Manifest) (c : Contents) : Type 0 where
+  pub slot : Slot
+  pub current : current_of c ≡ Ok (At slot m)
+  pub others : (f : ℕ) → f ≢ 0 → f ≢ 1 → c f ≡ seen f
+
+-- what a switch makes of an image: it leaves what is current, and all files but the slots; or this manifest is current, and all files but the slots are as a read gave them, since it is made only behind a sync
+abbrev pub Switches : Contents → Manifest → Contents → Contents → Type 0
+Switches seen m old new = Stays old new ⊎ IsMade seen m new
+
+-- what a crash during a switch leaves: an image from before after such a step
+abbrev pub IsAmid : (Contents → Type 0) → Contents → Manifest → Contents → Type 0
+IsAmid images seen m = From images (Switches seen m)
 
 -- the slot is open with this manifest, and all other files are as before
 pub record IsPlaced (s : Slot) (m : Manifest) (old new : Contents) : Type 0 where

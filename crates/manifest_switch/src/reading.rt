@@ -113,7 +113,7 @@ fn has_open_gate<D: Disk>(disk: &mut D, slot: Slot) -> Result<bool, Failed>
 
 // How many bytes stand behind a slot's gate, where the slot is open.
 #[tactic(auto, unfolding(crate::specs::Slots::is_open))]
-fn open_len<D: Disk>(disk: &mut D, slot: Slot) -> Result<Option<u64>, Failed>
+pub(crate) fn open_len<D: Disk>(disk: &mut D, slot: Slot) -> Result<Option<u64>, Failed>
     ensures open { IsTrue D.tells → IfOk result (AnswersOpen (D.seen disk.old (file_of slot))) }
     ensures small { IfOk result (λ len. IfSome len (λ n. 1 + n < 2 ^ 64)) }
     ensures looks { OnlyLooks D.seen D.may_leave D.moment D.left_since disk.old disk.new }

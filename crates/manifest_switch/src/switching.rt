@@ -1,13 +1,13 @@
 //! The switch from one slot to the other.
 ghost use Rattle.std.specs.Prelude.{◌≡◌, ◌≢◌, ◌⊎◌, ◌+◌, ◌%◌, ◌<◌, ◌≤◌, ◌∷◌, [], ℕ, Bool, IsTrue, true, false, length, Option, Some, None, Ok, Err, OnOk, IfOk, IsErrOf};
 ghost use Rattle.disk_model.specs.Disk.{Contents};
-ghost use Rattle.disk_model.specs.Crash.{LeavesJust, LeavesOnly, From};
+ghost use Rattle.disk_model.specs.Crash.{LeavesJust, LeavesOnly};
 ghost use Rattle.manifest.specs.Spelling.{Fits};
 ghost use Rattle.manifest.specs.declared.types.Manifest.{Manifest};
 ghost use Rattle.manifest_switch.specs.declared.slot.Slot.{Slot};
 ghost use Rattle.manifest_switch.specs.declared.slot.SwitchFault.TheVariants.{NoMemory};
 ghost use Rattle.manifest_switch.specs.Slots.{file_of, other, is_open, IsBlank, HasOnly, next_generation};
-ghost use Rattle.manifest_switch.specs.Steps.{Succeeds, Switches, IsPlaced, IsSwitched, HasFaultCause, target_of};
+ghost use Rattle.manifest_switch.specs.Steps.{Succeeds, IsAmid, IsPlaced, IsSwitched, HasFaultCause, target_of};
 
 use crate::gates::{close_gate, open_gate, write_body};
 use crate::slot::{Slot, SwitchFault};
@@ -25,7 +25,7 @@ fn replace<D: Disk>(
     requires fits { Fits next.now }
     requires closed { (c : Contents) → D.may_leave disk.old c → is_open (c (file_of slot)) ≡ false }
     requires follows { (c : Contents) → D.may_leave disk.old c → Succeeds slot next.now c }
-    ensures any_moment { LeavesOnly D.moment D.left_since disk.old disk.new (From (D.may_leave disk.old) (Switches next.now)) }
+    ensures any_moment { LeavesOnly D.moment D.left_since disk.old disk.new (IsAmid (D.may_leave disk.old) (D.seen disk.old) next.now) }
     ensures reads { IsTrue D.tells → OnOk result (IsPlaced slot next.now (D.seen disk.old) (D.seen disk.new)) }
     ensures synced { OnOk result (LeavesJust (D.seen disk.new) (D.may_leave disk.new)) }
     ensures memory { IsErrOf result NoMemory → disk.new ≡ disk.old }
@@ -48,8 +48,9 @@ fn replace<D: Disk>(
 ///
 /// It goes to the slot that isn't the current one, or to slot 0: the gate there is closed, the body
 /// written behind it, and the gate opened, each with a sync, and then the gate of the old one is
-/// closed. Whatever the answer, a crash at any moment leaves what was current, or this manifest as
-/// the current one, and all files but the slots as they were. After Ok it is the only open slot.
+/// closed. Whatever the answer, a crash at any moment leaves what was current, and all files but the
+/// slots as they were in an image; or this manifest as the current one, and all files but the slots
+/// as a read gave them, since a sync comes before it. After Ok it is the only open slot.
 /// `DiskFault` comes only where the disk's count rose. At `NoMemory` no call of the disk was made.
 ///
 /// The old version is valid until the new one is whole, as in shadow paging (Lorie, Physical
@@ -64,7 +65,7 @@ pub fn switch<D: Disk>(
     requires first { from ≡ None → next.now.generation ≡ 0 }
     requires blank { from ≡ None → (c : Contents) → D.may_leave disk.old c → IsBlank c }
     requires only { (s : Slot) → from ≡ Some s → (c : Contents) → D.may_leave disk.old c → (o : Manifest) × HasOnly s o c × (next.now.generation ≡ next_generation o.generation) }
-    ensures any_moment { LeavesOnly D.moment D.left_since disk.old disk.new (From (D.may_leave disk.old) (Switches next.now)) }
+    ensures any_moment { LeavesOnly D.moment D.left_since disk.old disk.new (IsAmid (D.may_leave disk.old) (D.seen disk.old) next.now) }
     ensures slot { IfOk result (λ s. s ≡ target_of from) }
     ensures done { IfOk result (λ s. (c : Contents) → D.may_leave disk.new c → HasOnly s next.now c) }
     ensures reads { IsTrue D.tells → IfOk result (λ s. IsSwitched s next.now (D.seen disk.old) (D.seen disk.new)) }

@@ -184,6 +184,32 @@ fn a_stop_leaves_the_old_manifest_or_the_new(rt: HostRuntime) -> Result<(), Fail
     Ok(())
 }
 
+// How many calls it takes to close the slot beside the current one.
+fn calls_to_close(alloc: Global, disk: &mut MemDisk) -> Result<u64, Fail> {
+    disk.sync()?;
+    let Found::At(slot, _) = current(alloc, disk)? else {
+        return Err("a slot is current".into());
+    };
+    let before = disk.calls();
+    close_other(disk, slot)?;
+    Ok(disk.calls().saturating_sub(before))
+}
+
+#[test]
+fn the_slot_beside_the_current_one_is_closed_once(rt: HostRuntime) -> Result<(), Fail> {
+    let alloc = rt.alloc();
+    let mut disk = disk_with(alloc, &file_of_generation(0), &FILE)?;
+    // the length and the gate; then the gate again, its write and the sync
+    assert_eq!(rt; calls_to_close(alloc, &mut disk)?, 5);
+    assert_eq!(rt; look(alloc, &mut disk), Held::At(Slot::One, 1));
+    // the length and the gate
+    assert_eq!(rt; calls_to_close(alloc, &mut disk)?, 2);
+    let mut gate = [7];
+    disk.read(0, 0, &mut gate)?;
+    assert_eq!(rt; gate, [0]);
+    Ok(())
+}
+
 // A body of a store with 256 vertices, a partition each, and no edge.
 fn body_of_many_parts(alloc: Global, generation: u8) -> Result<Vec<u8>, Fail> {
     let mut body = Vec::new(alloc);
@@ -230,11 +256,12 @@ fn nothing_is_asked_of_a_disk_that_tells_nothing(rt: HostRuntime) -> Result<(), 
     assert!(rt; commit_nowhere(&mut disk).is_err());
     assert!(rt; write_body(&mut disk, Slot::One, &[0]).is_err());
     assert!(rt; open_gate(&mut disk, Slot::One).is_err());
+    assert!(rt; close_other(&mut disk, Slot::One).is_err());
     assert_eq!(rt; look(alloc, &mut disk), Held::Failed);
     assert_eq!(rt;
         switch(alloc, &mut disk, Some(Slot::Zero), &next),
         Err(SwitchFault::DiskFault)
     );
-    assert_eq!(rt; disk.faults(), 5);
+    assert_eq!(rt; disk.faults(), 6);
     Ok(())
 }

@@ -1,9 +1,9 @@
-use Rattle.std.proofs.Common.{ℕ, List, sym, ◌∙◌, subst}
+use Rattle.std.proofs.Common.{inl, ℕ, List, sym, ◌∙◌, subst}
 use Rattle.disk_model.specs.Run.{then_run}
 use Rattle.manifest_switch.specs.Slots.{file_of, IsClosed}
 use Rattle.manifest_switch.specs.Steps.{Keeps, Opens, Switches}
 use Rattle.manifest_switch.proofs.CodecLemmas.{says}
-use Rattle.manifest_switch.proofs.SlotLemmas.{keeps_trans, keeps_switches}
+use Rattle.manifest_switch.proofs.SlotLemmas.{keeps_trans, keeps_stays}
 use Rattle.manifest_switch.proofs.SwitchLemmas.{is_shut, is_ready, is_placed, switched}
 use Rattle.manifest_switch.proofs.switching.replace.Goals as goal
 
@@ -23,8 +23,8 @@ returns-in_err-write_body-clause-any_moment g c =
     let L = g.met.D.Disk in
     let s = c.args.slot in
     let m = c.args.next.now in
-    then_run D.moment D.left_since D.may_leave L.counts_now L.only_now c.args.disk.now c.close_gate.new.disk c.write_body.new.disk (Keeps s) (Keeps s) (Switches m) c.close_gate.ensures.any_moment c.write_body.ensures.any_moment
-    (λ d x k. keeps_switches s m d x k) (λ d y x i j k l. keeps_switches s m d x (keeps_trans s d y x k l))
+    then_run D.moment D.left_since D.may_leave L.counts_now L.only_now c.args.disk.now c.close_gate.new.disk c.write_body.new.disk (Keeps s) (Keeps s) (Switches (D.seen c.args.disk.now) m) c.close_gate.ensures.any_moment c.write_body.ensures.any_moment
+    (λ d x k. inl (keeps_stays s d x k)) (λ d y x i j k l. inl (keeps_stays s d x (keeps_trans s d y x k l)))
 
 pub open_gate-requires : goal.open_gate-requires
 open_gate-requires g c = λ x now.
@@ -49,8 +49,8 @@ returns-in_err-open_gate-clause-any_moment g c =
     let is_body = says c.deref.result.now m c.spelling_is_read.ensures c.requires.fits (c.deref.ensures.value ∙ c.in_ok-body.ensures) in
     let so_far = then_run D.moment D.left_since D.may_leave L.counts_now L.only_now old mid new (Keeps s) (Keeps s) (Keeps s) c.close_gate.ensures.any_moment c.write_body.ensures.any_moment
     (λ d x k. k) (λ d y x i j k l. keeps_trans s d y x k l) in
-    then_run D.moment D.left_since D.may_leave L.counts_now L.only_now old new c.open_gate.new.disk (Keeps s) (Opens s) (Switches m) so_far c.open_gate.ensures.any_moment
-    (λ d x k. keeps_switches s m d x k) (λ d y x i j k o.
+    then_run D.moment D.left_since D.may_leave L.counts_now L.only_now old new c.open_gate.new.disk (Keeps s) (Opens s) (Switches (D.seen c.args.disk.now) m) so_far c.open_gate.ensures.any_moment
+    (λ d x k. inl (keeps_stays s d x k)) (λ d y x i j k o.
     let tells = L.told new y j in
     switched s m c.deref.result.now is_body (D.seen old) (D.seen mid) (D.seen new) (D.seen new) d y x (c.in_ok-write_body.ensures.synced y j) (c.in_ok-close_gate.ensures.reads tells) (c.in_ok-write_body.ensures.reads tells) k o)
 
@@ -66,8 +66,8 @@ returns-clause-any_moment g c =
     let is_body = says c.deref.result.now m c.spelling_is_read.ensures c.requires.fits (c.deref.ensures.value ∙ c.in_ok-body.ensures) in
     let so_far = then_run D.moment D.left_since D.may_leave L.counts_now L.only_now old mid new (Keeps s) (Keeps s) (Keeps s) c.close_gate.ensures.any_moment c.write_body.ensures.any_moment
     (λ d x k. k) (λ d y x i j k l. keeps_trans s d y x k l) in
-    then_run D.moment D.left_since D.may_leave L.counts_now L.only_now old new c.open_gate.new.disk (Keeps s) (Opens s) (Switches m) so_far c.open_gate.ensures.any_moment
-    (λ d x k. keeps_switches s m d x k) (λ d y x i j k o.
+    then_run D.moment D.left_since D.may_leave L.counts_now L.only_now old new c.open_gate.new.disk (Keeps s) (Opens s) (Switches (D.seen c.args.disk.now) m) so_far c.open_gate.ensures.any_moment
+    (λ d x k. inl (keeps_stays s d x k)) (λ d y x i j k o.
     let tells = L.told new y j in
     switched s m c.deref.result.now is_body (D.seen old) (D.seen mid) (D.seen new) (D.seen new) d y x (c.in_ok-write_body.ensures.synced y j) (c.in_ok-close_gate.ensures.reads tells) (c.in_ok-write_body.ensures.reads tells) k o)
 

@@ -41,8 +41,8 @@ returns-in_err-close_gate-in-Some-clause-any_moment g c =
     let L = g.met.D.Disk in
     let s = c.in-Some.old in
     let m = c.args.next.now in
-    then_run D.moment D.left_since D.may_leave L.counts_now L.only_now c.args.disk.now c.replace-in-Some.new.disk c.close_gate.new.disk (Switches m) (Keeps s) (Switches m) c.replace-in-Some.ensures.any_moment c.close_gate.ensures.any_moment
-    (λ d x w. w) (λ d y x i j w k. switches_keeps s m d y x w k)
+    then_run D.moment D.left_since D.may_leave L.counts_now L.only_now c.args.disk.now c.replace-in-Some.new.disk c.close_gate.new.disk (Switches (D.seen c.args.disk.now) m) (Keeps s) (Switches (D.seen c.args.disk.now) m) c.replace-in-Some.ensures.any_moment c.close_gate.ensures.any_moment
+    (λ d x w. w) (λ d y x i j w k. switches_keeps s m (D.seen c.args.disk.now) d y x w k)
 
 pub returns-in_ok-replace-in-None-clause-reads : goal.returns-in_ok-replace-in-None-clause-reads
 returns-in_ok-replace-in-None-clause-reads g c = λ tells.
@@ -67,8 +67,8 @@ returns-in_ok-close_gate-in-Some-clause-any_moment g c =
     let L = g.met.D.Disk in
     let s = c.in-Some.old in
     let m = c.args.next.now in
-    then_run D.moment D.left_since D.may_leave L.counts_now L.only_now c.args.disk.now c.replace-in-Some.new.disk c.close_gate.new.disk (Switches m) (Keeps s) (Switches m) c.replace-in-Some.ensures.any_moment c.close_gate.ensures.any_moment
-    (λ d x w. w) (λ d y x i j w k. switches_keeps s m d y x w k)
+    then_run D.moment D.left_since D.may_leave L.counts_now L.only_now c.args.disk.now c.replace-in-Some.new.disk c.close_gate.new.disk (Switches (D.seen c.args.disk.now) m) (Keeps s) (Switches (D.seen c.args.disk.now) m) c.replace-in-Some.ensures.any_moment c.close_gate.ensures.any_moment
+    (λ d x w. w) (λ d y x i j w k. switches_keeps s m (D.seen c.args.disk.now) d y x w k)
 
 pub returns-in_ok-close_gate-in-Some-clause-reads : goal.returns-in_ok-close_gate-in-Some-clause-reads
 returns-in_ok-close_gate-in-Some-clause-reads g c = λ tells.
