@@ -1,0 +1,26 @@
+//! Files of a disk that are written anew.
+#![tactic(auto)]
+
+ghost use Rattle.std.specs.Prelude.{◌≡◌, ◌<◌, IsTrue, OnOk};
+ghost use Rattle.disk_model.specs.Disk.{HasCause, Sets};
+ghost use Rattle.disk_model.specs.Crash.{LeavesOnly, From};
+ghost use Rattle.disk_files.specs.Files.{OnlyFile};
+
+use disk_model::{Disk, Failed};
+
+/// Writes a file anew: it is cut to nothing, and gets these bytes.
+///
+/// Whatever it answers, a crash at any moment since the start leaves all other files as they were.
+/// There is no sync. `Failed` comes only where the disk's count rose.
+pub fn rewrite<D: Disk>(disk: &mut D, file: u32, bytes: &[u8]) -> Result<(), Failed>
+    requires { file < 1024 }
+    ensures any_moment { LeavesOnly D.moment D.left_since disk.old disk.new (From (D.may_leave disk.old) (OnlyFile file)) }
+    ensures written { IsTrue D.tells → OnOk result (Sets file bytes.now (D.seen disk.old) (D.seen disk.new)) }
+    ensures cause { HasCause (D.faults disk.old) (D.faults disk.new) result }
+{
+    disk.cut(file, 0)?;
+    disk.write_at(file, 0, bytes)
+}
+
+#[cfg(test)]
+mod tests;
