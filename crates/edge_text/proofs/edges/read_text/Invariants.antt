@@ -1,5 +1,4 @@
-use Rattle.std.proofs.Common.{◌≡◌, ℕ, ◌-◌, ◌^◌, ◌≤◌, List, [], true}
-use Rattle.edge_text.specs.Feeding.{IsFed}
+use Rattle.std.proofs.Common.{◌≡◌, ℕ, ◌-◌, ◌^◌, ◌≤◌, List, true, Some}
 use Rattle.edge_text.proofs.FeedLemmas.{IsReadTo}
 use Rattle.edge_text.proofs.edges.read_text.Given as goal
 
@@ -11,7 +10,7 @@ invariant-loop-edges g l =
       short : l.place ≤ 1099511631872;
       kept : g.I.Inputs.told l.inputs ≡ g.I.Inputs.told l.initial.inputs;
       count : (k : List ℕ) → g.I.Inputs.faults l.initial.inputs k ≤ g.I.Inputs.faults l.inputs k;
-      feeds : (names : List (List ℕ)) → IsFed names [] l.fn.reader [] → IsReadTo names (g.I.Inputs.told l.initial.inputs l.name) l.reader l.edges.items;
+      reads : (text : List ℕ) × IsReadTo (λ file. g.I.Inputs.told l.initial.inputs l.name ≡ Some file) l.fn.reader l.reader text l.edges.items;
     }
 
 abbrev pub decreases-loop-edges : goal.decreases-loop-edges
