@@ -1,0 +1,3 @@
+pub mod DegreeLemmas
+pub mod TallyLemmas
+pub mod CopyLemmas

@@ -1,0 +1,3 @@
+pub mod Degrees
+pub mod Tally
+pub mod Copying

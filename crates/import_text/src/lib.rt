@@ -1,0 +1,13 @@
+//! Edge files brought to a disk: read once, checked and copied, and read again from the copy for one partition at a time.
+#![tactic(auto)]
+
+mod copying;
+mod degrees;
+mod fault;
+mod tally;
+
+pub use copying::{Copied, copy_edges};
+pub use fault::TextFault;
+
+#[cfg(test)]
+mod tests;
