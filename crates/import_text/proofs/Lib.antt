@@ -1,3 +1,6 @@
 pub mod DegreeLemmas
 pub mod TallyLemmas
 pub mod CopyLemmas
+pub mod SortLemmas
+pub mod GivenLemmas
+pub mod ReadLemmas

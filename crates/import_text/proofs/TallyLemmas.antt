@@ -1,6 +1,7 @@
 -- A piece is read, and its edges are counted.
-use Rattle.std.proofs.Common.{◌≡◌, ℕ, ◌+◌, ◌≤◌, max, List, [], ◌++◌, length, sym, ap, ◌∙◌, arith, subst, append-nil, true}
+use Rattle.std.proofs.Common.{◌≡◌, ℕ, ◌+◌, ◌<◌, ◌≤◌, max, List, [], ◌++◌, length, sym, ap, ◌∙◌, arith, subst, append-nil, true}
 use Rattle.std.specs.Prelude.{All}
+use Rattle.std.proofs.lemmas.List.Elements.{All-weaker}
 use Rattle.graph_words.specs.declared.types.Edge.{Edge}
 use Rattle.edge_text.specs.EdgesText.{ReadsEdges}
 use Rattle.edge_text.specs.Feeding.{EdgeFeed, IsFed, AddsEdges, IsNumbered}
@@ -15,8 +16,14 @@ added_are most none edges table table' empty a = a.edges_are ∙ ap (λ es. es +
 few_added : (most : ℕ) (none edges : List Edge) (table table' : List (List ℕ)) → none ≡ [] → AddsEdges most none table edges table' → length edges ≤ most
 few_added most none edges table table' empty a = omega (arith, ap length (added_are most none edges table table' empty a), a.few)
 
-numbered_added : (most : ℕ) (none edges : List Edge) (table table' : List (List ℕ)) → none ≡ [] → AddsEdges most none table edges table' → All (IsNumbered (length table')) edges
+pub numbered_added : (most : ℕ) (none edges : List Edge) (table table' : List (List ℕ)) → none ≡ [] → AddsEdges most none table edges table' → All (IsNumbered (length table')) edges
 numbered_added most none edges table table' empty a = subst (λ (es : List Edge). All (IsNumbered (length table')) es) (sym (added_are most none edges table table' empty a)) a.numbered
+
+-- and their labels are named ones
+pub named_added : (most : ℕ) (none edges : List Edge) (table table' : List (List ℕ)) → none ≡ [] → length table ≤ 1000 → AddsEdges most none table edges table' → All (λ e. e.label.0 < 1000) edges
+named_added most none edges table table' empty few a =
+    let short = a.short few in
+    All-weaker (IsNumbered (length table')) (λ e. e.label.0 < 1000) (λ e i. omega (arith, i.label, short)) edges (numbered_added most none edges table table' empty a)
 
 small_counts : (n : ℕ) (edges : List Edge) (old new : List ℕ) → All (IsNumbered n) edges → Counted edges old new → length old ≤ 16777216 → length new ≤ 16777216
 small_counts n edges old new all c few = omega (arith, c.longer, few_numbered n edges all, few)

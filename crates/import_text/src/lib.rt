@@ -4,10 +4,14 @@
 mod copying;
 mod degrees;
 mod fault;
+mod gathering;
+mod given;
+mod reading;
 mod tally;
 
 pub use copying::{Copied, copy_edges};
 pub use fault::TextFault;
+pub use reading::given_edges;
 
 #[cfg(test)]
 mod tests;

@@ -1,8 +1,11 @@
 use super::*;
 use disk_model::{Disk, MemDisk};
+use graph_words::{LabelId, Rule, Word, is_label};
 use io_edge::{InputKind, MemInputs, NamedBytes};
 use label_table::LabelTable;
+use normal_form::{Grammar, Normal, is_grammar, normalise};
 use std::alloc::Global;
+use std::process::Abort;
 use std::test::Fail;
 
 fn one_file(alloc: Global, text: &[u8]) -> Result<MemInputs, Fail> {
@@ -55,15 +58,9 @@ fn a_copy_stops_at_the_first_fault(rt: HostRuntime) -> Result<(), Fail> {
     };
     assert!(rt; matches!(refused, Err(fault) if fault == wanted));
     let mut inputs = one_file(alloc, EDGES)?;
-    disk.fail_calls(vec![in alloc; disk.calls() + 1]?);
-    let refused = copy_edges(
-        alloc,
-        &mut inputs,
-        "e",
-        LabelTable::new(alloc),
-        &mut disk,
-        3,
-    );
+    let mut disk = MemDisk::new(alloc)?;
+    disk.fail_calls(vec![in alloc; 1]?);
+    let refused = copy_edges(alloc, &mut inputs, "e", LabelTable::new(alloc), &mut disk, 3);
     assert!(rt; matches!(refused, Err(TextFault::DiskFault)));
     inputs.fail_calls(vec![in alloc; 1]?);
     let refused = copy_edges(
@@ -75,5 +72,64 @@ fn a_copy_stops_at_the_first_fault(rt: HostRuntime) -> Result<(), Fail> {
         3,
     );
     assert!(rt; matches!(refused, Err(TextFault::ReadFault)));
+    Ok(())
+}
+
+// S derives the empty word, and what a says. S is label 0, and the files' a and b are 1 and 2.
+fn normal_form_of_two_rules(rt: &impl Abort, alloc: Global) -> Result<Normal, Fail> {
+    let empty = Rule {
+        left: LabelId(0),
+        right: Word::new(alloc),
+    };
+    let single = Rule {
+        left: LabelId(0),
+        right: Word::of(alloc, &[LabelId(1)])?,
+    };
+    let rules = vec![in alloc; empty, single]?;
+    assert!(rt; is_grammar(&rules));
+    Ok(normalise(alloc, &Grammar::from_rules(rules))?)
+}
+
+fn copy_behind_s(rt: &impl Abort, alloc: Global, disk: &mut MemDisk) -> Result<Copied, Fail> {
+    let mut table = LabelTable::new(alloc);
+    assert!(rt; is_label(b"S"));
+    assert_eq!(rt; table.add(alloc, b"S"), Ok(LabelId(0)));
+    let mut inputs = one_file(alloc, EDGES)?;
+    Ok(copy_edges(alloc, &mut inputs, "e", table, disk, 3)?)
+}
+
+// Vertices 0 and 1 of 3: the repeated edge with a and with S above it, and a loop with S at each.
+#[test]
+fn a_copy_gives_the_edges_of_an_interval(rt: HostRuntime) -> Result<(), Fail> {
+    let alloc = rt.alloc();
+    let normal = normal_form_of_two_rules(&rt, alloc)?;
+    let mut disk = MemDisk::new(alloc)?;
+    let copied = copy_behind_s(&rt, alloc, &mut disk)?;
+    assert_eq!(rt; (copied.len, copied.vertices), (24, 3));
+    let part = given_edges(alloc, &mut disk, 3, 24, &copied.labels, &normal, 3, 0, 2)?;
+    let wanted = [(0, 0, 0), (0, 0, 2), (0, 1, 2), (1, 0, 1)];
+    assert_eq!(rt; part.edges().len(), wanted.len());
+    for (born, edge) in part.edges().iter().zip(wanted) {
+        assert_eq!(rt; (born.edge.src.0, born.edge.label.0, born.edge.dst.0), edge);
+        assert_eq!(rt; born.birth, 0);
+    }
+    Ok(())
+}
+
+#[test]
+fn a_copy_that_was_cut_is_bad(rt: HostRuntime) -> Result<(), Fail> {
+    let alloc = rt.alloc();
+    let normal = normal_form_of_two_rules(&rt, alloc)?;
+    let mut disk = MemDisk::new(alloc)?;
+    let copied = copy_behind_s(&rt, alloc, &mut disk)?;
+    let labels = &copied.labels;
+    let bad = given_edges(alloc, &mut disk, 3, 24, labels, &normal, 2, 0, 2);
+    assert!(rt; matches!(bad, Err(TextFault::BadCopy)));
+    assert_eq!(rt; disk.cut(3, 18), Ok(()));
+    let bad = given_edges(alloc, &mut disk, 3, 24, labels, &normal, 3, 0, 2);
+    assert!(rt; matches!(bad, Err(TextFault::BadCopy)));
+    disk.stop_from(0);
+    let stopped = given_edges(alloc, &mut disk, 3, 24, labels, &normal, 3, 0, 2);
+    assert!(rt; matches!(stopped, Err(TextFault::DiskFault)));
     Ok(())
 }
