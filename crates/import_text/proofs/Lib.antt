@@ -4,3 +4,5 @@ pub mod CopyLemmas
 pub mod SortLemmas
 pub mod GivenLemmas
 pub mod ReadLemmas
+pub mod PartLemmas
+pub mod GoodLemmas

@@ -1,5 +1,5 @@
 -- A copy is read again for one partition.
-use Rattle.std.specs.Prelude.{◌≡◌, ℕ, ◌≤◌, List, length}
+use Rattle.std.specs.Prelude.{◌≡◌, ℕ, ◌≤◌, ◌↔◌, List, length, Contains}
 use Rattle.graph_words.specs.declared.types.Edge.{Edge}
 use Rattle.graph_words.specs.Reach.{graph_with}
 use Rattle.normal_law.specs.Closure.{Normal}
@@ -11,7 +11,7 @@ use Rattle.partition_file.specs.declared.types.Expect.{Expect}
 use Rattle.partition_file.specs.Spelling.{Part}
 use Rattle.import_text.specs.declared.fault.TextFault.{TextFault}
 use Rattle.import_text.specs.declared.fault.TextFault.TheVariants as faults
-use Rattle.import_text.specs.Given.{AreGiven}
+use Rattle.import_text.specs.Given.{AreGiven, IsAboveIn}
 use Rattle.import_text.specs.Gathering.{Gathered, Gathers}
 
 -- the fault of a copy that was read with this fault
@@ -34,6 +34,13 @@ pub record IsGoodCopy (labels : List (List ℕ)) (len vertices : ℕ) (text : Li
   pub reads : ReadsEdges labels text (edges_of labels text) labels
   pub len_is : length text ≡ len
   pub few : vertex_count_of (edges_of labels text) ≤ vertices
+
+-- a good copy was read, which is the file where that is told, and just what it gives in the interval is listed
+pub record GathersCopy (n : Normal) (labels : List (List ℕ)) (len vertices lo hi : ℕ) (tells : Type 0) (file : List ℕ) (given : List Edge) : Type 0 where
+  pub text : List ℕ
+  pub good : IsGoodCopy labels len vertices text
+  pub is_file : tells → text ≡ file
+  pub all : (e : Edge) → Contains given e ↔ IsAboveIn n lo hi (edges_of labels text) e
 
 -- a good copy was read, which is the file where that is told, and the edges are the given ones of the interval
 pub record GivesPart (n : Normal) (labels : List (List ℕ)) (len vertices lo hi : ℕ) (tells : Type 0) (file : List ℕ) (p : Part) : Type 0 where

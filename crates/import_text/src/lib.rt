@@ -6,6 +6,7 @@ mod degrees;
 mod fault;
 mod gathering;
 mod given;
+mod parting;
 mod reading;
 mod tally;
 

@@ -6,12 +6,12 @@ ghost use Rattle.edge_text.specs.EdgesText.{edges_fault};
 ghost use Rattle.edge_text.specs.Feeding.{IsFed};
 ghost use Rattle.manifest_switch.specs.Looks.{OnlyLooks};
 ghost use Rattle.partition_file.specs.Spelling.{Fits};
-ghost use Rattle.import_text.specs.Reading.{reading_fault as fault_of_reading, GathersFile, GivesPart, IsGoodCopy, HasCauseOn, expect_given};
+ghost use Rattle.import_text.specs.Reading.{reading_fault as fault_of_reading, GathersFile, GathersCopy, GivesPart, IsGoodCopy, HasCauseOn, expect_given};
 
 use crate::copying::PIECE_LEN;
 use crate::fault::TextFault;
 use crate::gathering::Gathering;
-use crate::given::{add_loops, born_first, make_once};
+use crate::parting::part_of;
 use disk_model::Disk;
 use edge_text::EdgesFault;
 use graph_words::Edge;
@@ -70,6 +70,42 @@ fn gather_pieces<D: Disk>(
     Ok(place)
 }
 
+/// The edges that a copy gives in an interval, some maybe more than once.
+fn gather_copy<D: Disk>(
+    alloc: Global,
+    disk: &mut D,
+    file: u32,
+    len: u64,
+    labels: &LabelTable,
+    normal: &Normal,
+    vertices: u32,
+    lo: u32,
+    hi: u32,
+) -> Result<Vec<Edge>, TextFault>
+    requires file { file < 1024 }
+    ensures gathered { IfOk result (λ given. GathersCopy (normal_form normal.now) labels.now len vertices lo hi (IsTrue D.tells) (D.seen disk.old file) given.items) }
+    ensures bad { IfErr result (λ e. e ≡ TextFault.BadCopy → IsTrue D.tells → IsGoodCopy labels.now len vertices (D.seen disk.old file) → ⊥) }
+    ensures cause { IfErr result (HasCauseOn (D.faults disk.old) (D.faults disk.new)) }
+    ensures later { D.faults disk.old ≤ D.faults disk.new }
+    ensures looks { OnlyLooks D.seen D.may_leave D.moment D.left_since disk.old disk.new }
+{
+    // Names stand once in a table, so that only new ones make it longer.
+    let names = labels.names().len();
+    let mut piece = Vec::from_elem(alloc, 0, PIECE_LEN)?;
+    let mut gathering = Gathering::new(alloc, labels.copy()?, lo, hi)?;
+    let found = gather_pieces(alloc, disk, file, normal, &mut gathering, &mut piece)?;
+    if found != len {
+        return Err(TextFault::BadCopy);
+    }
+    if gathering.names() != names {
+        return Err(TextFault::BadCopy);
+    }
+    if vertices < gathering.vertices() {
+        return Err(TextFault::BadCopy);
+    }
+    Ok(gathering.into_given())
+}
+
 /// Reads a copy once, in pieces of 65,536 bytes, and makes the partition of the vertices from lo to hi - 1 with which a
 /// closing begins: the labels above each edge from these vertices, and a loop at each of them for each label that
 /// derives the empty word, each edge once, with birth 0.
@@ -103,15 +139,9 @@ pub fn given_edges<D: Disk>(
     ensures later { D.faults disk.old ≤ D.faults disk.new }
     ensures looks { OnlyLooks D.seen D.may_leave D.moment D.left_since disk.old disk.new }
 {
-    let names = labels.names().len();
-    let mut piece = Vec::from_elem(alloc, 0, PIECE_LEN)?;
-    let mut gathering = Gathering::new(alloc, labels.copy()?, lo, hi)?;
-    let found = gather_pieces(alloc, disk, file, normal, &mut gathering, &mut piece)?;
-    if found != len || gathering.names() != names || gathering.vertices() > vertices {
-        return Err(TextFault::BadCopy);
-    }
-    let mut given = gathering.into_given();
-    add_loops(&mut given, normal, lo, hi)?;
-    make_once(&mut given);
-    Ok(Partition::new(lo, hi, born_first(alloc, &given)?))
+    // There are few fresh labels, so that each label's number fits the file of a partition.
+    let _fresh = normal.fresh();
+    let given = gather_copy(alloc, disk, file, len, labels, normal, vertices, lo, hi)?;
+    let part = part_of(alloc, normal, lo, hi, given)?;
+    Ok(part)
 }
