@@ -6,3 +6,4 @@ pub mod GivenLemmas
 pub mod ReadLemmas
 pub mod PartLemmas
 pub mod GoodLemmas
+pub mod FitLemmas
