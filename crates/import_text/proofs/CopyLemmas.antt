@@ -1,14 +1,13 @@
 -- A file is copied piece by piece.
-use Rattle.std.proofs.Common.{◌≡◌, ◌≢◌, ℕ, ◌+◌, ◌-◌, ◌<◌, ◌≤◌, ◌^◌, List, [], ◌∷◌, ◌++◌, length, take, drop, replicate, refl, sym, ap, ◌∙◌, arith, subst, append-nil, length-append, Some}
+use Rattle.std.proofs.Common.{◌≡◌, ◌≢◌, ℕ, ◌+◌, ◌-◌, ◌≤◌, List, [], ◌∷◌, ◌++◌, length, take, drop, replicate, refl, sym, ap, ◌∙◌, arith, subst, append-nil, Some}
 use Rattle.std.specs.Prelude.{Option}
 use Rattle.std.specs.List.{sum}
 use Rattle.std.proofs.lemmas.List.{take_all, drop_all}
 use Rattle.graph_words.specs.declared.types.Edge.{Edge}
-use Rattle.edge_text.specs.EdgesText.{ReadsEdges, vertex_count_of}
-use Rattle.edge_text.specs.Feeding.{EdgeFeed, IsFed}
+use Rattle.edge_text.specs.Feeding.{IsFed}
 use Rattle.edge_text.proofs.FeedLemmas.{IsReadTo, reads_start, reads_on}
 use Rattle.io_edge.specs.Devices.{Gives}
-use Rattle.disk_model.specs.Disk.{Contents, Sets, written, overwritten}
+use Rattle.disk_model.specs.Disk.{Contents, Sets, written}
 use Rattle.import_text.specs.Degrees.{AreDegrees}
 use Rattle.import_text.specs.Tally.{Tallied, TakesPiece, TakesEnd}
 use Rattle.io_edge.specs.declared.kinds.InputKind.{InputKind}

@@ -1,5 +1,5 @@
 -- A partition of given edges is what a closing begins with, and fits its file.
-use Rattle.std.proofs.Common.{◌≡◌, ◌⊎◌, ◌↔◌, inl, inr, ℕ, ◌+◌, ◌-◌, ◌<◌, ◌≤◌, ◌^◌, cond, List, [], ◌∷◌, length, refl, sym, ap, ◌∙◌, arith, subst, true}
+use Rattle.std.proofs.Common.{◌≡◌, ◌⊎◌, ◌↔◌, inl, inr, ℕ, ◌+◌, ◌-◌, ◌<◌, ◌≤◌, ◌^◌, cond, List, [], ◌∷◌, length, refl, ap, arith, subst, true}
 use Rattle.std.specs.Prelude.{All, Contains, nat_lt, slice_index_or}
 use Rattle.std.proofs.lemmas.Bool.Decides.{nat_tests}
 use Rattle.std.proofs.lemmas.List.Elements.{All-contains}
@@ -17,7 +17,7 @@ use Rattle.closing_machine.proofs.Members.{All-from_members}
 use Rattle.edge_text.specs.EdgesText.{edges_of, vertex_count_of}
 use Rattle.edge_text.proofs.GraphLemmas.{IsGraph-with_count}
 use Rattle.partition_file.specs.Spelling.{Part, IsPart, Fits, FitsEdge}
-use Rattle.import_text.specs.Given.{AreGiven, IsFrom, IsAboveIn, IsLoopIn}
+use Rattle.import_text.specs.Given.{IsFrom, IsAboveIn, IsLoopIn}
 use Rattle.import_text.specs.Reading.{GathersCopy, GivesPart, expect_given}
 
 -- ---- labels

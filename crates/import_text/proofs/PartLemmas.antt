@@ -1,15 +1,15 @@
 -- A partition of given edges and loops.
-use Rattle.std.proofs.Common.{◌≡◌, ◌⊎◌, ◌↔◌, inl, inr, ℕ, ◌<◌, ◌≤◌, List, length, get_or, refl, sym, ap, ◌∙◌, arith, subst}
+use Rattle.std.proofs.Common.{◌≡◌, ◌⊎◌, ◌↔◌, inl, inr, ℕ, ◌<◌, List, length, get_or, sym, ap, arith, subst}
 use Rattle.std.specs.Prelude.{All, AllPairs, Contains}
 use Rattle.std.proofs.lemmas.List.{get_or-map, length-map}
 use Rattle.std.proofs.lemmas.List.Elements.{All-contains}
 use Rattle.graph_words.specs.declared.types.Edge.{Edge}
 use Rattle.graph_words.specs.declared.types.Born.{Born}
-use Rattle.graph_words.specs.Reach.{IsBefore, IsAscending}
+use Rattle.graph_words.specs.Reach.{IsAscending}
 use Rattle.normal_law.specs.Closure.{Normal}
 use Rattle.closing_machine.specs.Rounds.{born, all_born}
 use Rattle.closing_machine.proofs.Members.{Contains-all_born, from_all_born, All-from_members}
-use Rattle.partition_file.specs.Spelling.{Part, IsPart, IsBornBefore}
+use Rattle.partition_file.specs.Spelling.{IsPart, IsBornBefore}
 use Rattle.import_text.specs.Given.{AddsJust, IsFrom, IsLoopIn}
 
 born_is : (b : Born) → b.birth ≡ 0 → born b.edge 0 ≡ b

@@ -1,16 +1,14 @@
 -- A copy is read piece by piece, and what its lines give is gathered.
-use Rattle.std.proofs.Common.{◌≡◌, ◌≢◌, ◌⊎◌, inl, inr, ℕ, ◌+◌, ◌-◌, ◌<◌, ◌≤◌, min, max, List, [], ◌++◌, length, take, drop, refl, sym, ap, ◌∙◌, arith, subst, Some, None}
+use Rattle.std.proofs.Common.{◌≡◌, ◌≢◌, inl, ℕ, ◌≤◌, List, [], ◌++◌, length, take, refl, ◌∙◌, arith, subst}
 use Rattle.graph_words.specs.declared.types.Edge.{Edge}
 use Rattle.normal_law.specs.Closure.{Normal}
 use Rattle.io_edge.specs.declared.kinds.InputKind.{InputKind}
 use Rattle.io_edge.specs.Devices.{Gives}
 use Rattle.edge_text.specs.declared.edges.EdgesFault.{EdgesFault}
 use Rattle.edge_text.specs.declared.edges.EdgesFault.TheVariants as edges
-use Rattle.edge_text.specs.EdgesText.{vertex_count_of}
 use Rattle.edge_text.specs.Feeding.{IsFed}
 use Rattle.edge_text.proofs.FeedLemmas.{IsReadTo, reads_start, reads_on}
 use Rattle.disk_model.specs.Disk.{Contents, Reads}
-use Rattle.disk_model.specs.Crash.{NoMore, Elapses}
 use Rattle.manifest_switch.specs.Looks.{OnlyLooks}
 use Rattle.import_text.specs.declared.fault.TextFault.TheVariants as faults
 use Rattle.import_text.specs.Given.{AddsJust, IsAboveIn}

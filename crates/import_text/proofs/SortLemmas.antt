@@ -1,6 +1,6 @@
 -- Edges that are sorted and made once.
-use Rattle.std.proofs.Common.{◌≡◌, ◌⊎◌, ℕ, ◌<◌, List, [], ◌∷◌, ◌&&◌, Bool, true, eqb, arith, nat_cmp, sym, ap, ◌∙◌, inl, inr}
-use Rattle.std.specs.Prelude.{All, IsSorted}
+use Rattle.std.proofs.Common.{◌≡◌, ◌⊎◌, ℕ, ◌<◌, List, [], ◌∷◌, ◌&&◌, Bool, true, eqb, arith, nat_cmp, sym, ap, ◌∙◌}
+use Rattle.std.specs.Prelude.{All}
 use Rattle.std.specs.declared.cmp.Ordering.TheVariants.{Less}
 use Rattle.std.specs.Ordering.{ordering_then, eq_by_cmp}
 use Rattle.std.specs.Cmp.{IsEquivalence}

@@ -1,5 +1,5 @@
 -- An edge file is checked and copied.
-use Rattle.std.specs.Prelude.{◌≡◌, ℕ, ◌<◌, ◌≤◌, ◌^◌, List, [], length, Option, Some}
+use Rattle.std.specs.Prelude.{◌≡◌, ℕ, ◌<◌, ◌≤◌, ◌^◌, List, length, Option, Some}
 use Rattle.std.specs.List.{sum}
 use Rattle.graph_words.specs.declared.types.Edge.{Edge}
 use Rattle.edge_text.specs.declared.edges.EdgesFault.{EdgesFault}

@@ -1,10 +1,13 @@
+ghost use Rattle.std.specs.Prelude.{◌↔◌, ◌<◌, ◌≤◌, All, IsTrue};
+
 use super::*;
 use disk_model::{Disk, MemDisk};
 use graph_words::{LabelId, Rule, Word, is_label};
 use io_edge::{InputKind, MemInputs, NamedBytes};
 use label_table::LabelTable;
-use normal_form::{Grammar, Normal, is_grammar, normalise};
-use std::alloc::Global;
+use normal_form::{Grammar, is_grammar, normalise};
+use partition_file::Partition;
+use std::alloc::{AllocError, Global};
 use std::process::Abort;
 use std::test::Fail;
 
@@ -60,7 +63,14 @@ fn a_copy_stops_at_the_first_fault(rt: HostRuntime) -> Result<(), Fail> {
     let mut inputs = one_file(alloc, EDGES)?;
     let mut disk = MemDisk::new(alloc)?;
     disk.fail_calls(vec![in alloc; 1]?);
-    let refused = copy_edges(alloc, &mut inputs, "e", LabelTable::new(alloc), &mut disk, 3);
+    let refused = copy_edges(
+        alloc,
+        &mut inputs,
+        "e",
+        LabelTable::new(alloc),
+        &mut disk,
+        3,
+    );
     assert!(rt; matches!(refused, Err(TextFault::DiskFault)));
     inputs.fail_calls(vec![in alloc; 1]?);
     let refused = copy_edges(
@@ -75,8 +85,14 @@ fn a_copy_stops_at_the_first_fault(rt: HostRuntime) -> Result<(), Fail> {
     Ok(())
 }
 
+fn lefts_are_below(rules: &[Rule], count: usize) -> bool
+    ensures { IsTrue result ↔ All (λ r. r.left.0 < count) rules.now }
+{
+    rules.iter().all(|rule| usize::from(rule.left.0) < count)
+}
+
 // S derives the empty word, and what a says. S is label 0, and the files' a and b are 1 and 2.
-fn normal_form_of_two_rules(rt: &impl Abort, alloc: Global) -> Result<Normal, Fail> {
+fn two_rules(alloc: Global) -> Result<Vec<Rule>, AllocError> {
     let empty = Rule {
         left: LabelId(0),
         right: Word::new(alloc),
@@ -85,9 +101,27 @@ fn normal_form_of_two_rules(rt: &impl Abort, alloc: Global) -> Result<Normal, Fa
         left: LabelId(0),
         right: Word::of(alloc, &[LabelId(1)])?,
     };
-    let rules = vec![in alloc; empty, single]?;
+    Ok(vec![in alloc; empty, single]?)
+}
+
+// The partition of vertices 0 and 1.
+fn part_of_copy(
+    rt: &impl Abort,
+    alloc: Global,
+    disk: &mut MemDisk,
+    labels: &LabelTable,
+    vertices: u32,
+) -> Result<Partition, TextFault>
+    requires { (2 ≤ vertices) × (vertices ≤ 16777216) }
+{
+    let rules = two_rules(alloc)?;
     assert!(rt; is_grammar(&rules));
-    Ok(normalise(alloc, &Grammar::from_rules(rules))?)
+    let known = lefts_are_below(&rules, labels.len());
+    if !known {
+        return Err(TextFault::NoMemory);
+    }
+    let normal = normalise(alloc, &Grammar::from_rules(rules))?;
+    given_edges(alloc, disk, 3, 24, labels, &normal, vertices, 0, 2)
 }
 
 fn copy_behind_s(rt: &impl Abort, alloc: Global, disk: &mut MemDisk) -> Result<Copied, Fail> {
@@ -102,11 +136,10 @@ fn copy_behind_s(rt: &impl Abort, alloc: Global, disk: &mut MemDisk) -> Result<C
 #[test]
 fn a_copy_gives_the_edges_of_an_interval(rt: HostRuntime) -> Result<(), Fail> {
     let alloc = rt.alloc();
-    let normal = normal_form_of_two_rules(&rt, alloc)?;
     let mut disk = MemDisk::new(alloc)?;
     let copied = copy_behind_s(&rt, alloc, &mut disk)?;
     assert_eq!(rt; (copied.len, copied.vertices), (24, 3));
-    let part = given_edges(alloc, &mut disk, 3, 24, &copied.labels, &normal, 3, 0, 2)?;
+    let part = part_of_copy(&rt, alloc, &mut disk, &copied.labels, 3)?;
     let wanted = [(0, 0, 0), (0, 0, 2), (0, 1, 2), (1, 0, 1)];
     assert_eq!(rt; part.edges().len(), wanted.len());
     for (born, edge) in part.edges().iter().zip(wanted) {
@@ -119,17 +152,16 @@ fn a_copy_gives_the_edges_of_an_interval(rt: HostRuntime) -> Result<(), Fail> {
 #[test]
 fn a_copy_that_was_cut_is_bad(rt: HostRuntime) -> Result<(), Fail> {
     let alloc = rt.alloc();
-    let normal = normal_form_of_two_rules(&rt, alloc)?;
     let mut disk = MemDisk::new(alloc)?;
     let copied = copy_behind_s(&rt, alloc, &mut disk)?;
     let labels = &copied.labels;
-    let bad = given_edges(alloc, &mut disk, 3, 24, labels, &normal, 2, 0, 2);
+    let bad = part_of_copy(&rt, alloc, &mut disk, labels, 2);
     assert!(rt; matches!(bad, Err(TextFault::BadCopy)));
     assert_eq!(rt; disk.cut(3, 18), Ok(()));
-    let bad = given_edges(alloc, &mut disk, 3, 24, labels, &normal, 3, 0, 2);
+    let bad = part_of_copy(&rt, alloc, &mut disk, labels, 3);
     assert!(rt; matches!(bad, Err(TextFault::BadCopy)));
     disk.stop_from(0);
-    let stopped = given_edges(alloc, &mut disk, 3, 24, labels, &normal, 3, 0, 2);
+    let stopped = part_of_copy(&rt, alloc, &mut disk, labels, 3);
     assert!(rt; matches!(stopped, Err(TextFault::DiskFault)));
     Ok(())
 }

@@ -1,4 +1,4 @@
-use Rattle.std.proofs.Common.{arith, get_or}
+use Rattle.std.proofs.Common.{arith}
 use Rattle.normal_law.specs.NormalForm.{normal_form}
 use Rattle.import_text.proofs.GivenLemmas.{above_none, above_more, above_all}
 use Rattle.import_text.proofs.given.add_above.Goals as goal

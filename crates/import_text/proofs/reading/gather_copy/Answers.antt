@@ -1,10 +1,8 @@
-use Rattle.std.proofs.Common.{◌≡◌, ◌≤◌, List, ℕ, length, sym, ap, ◌∙◌, subst, arith}
+use Rattle.std.proofs.Common.{length, sym, ap, ◌∙◌, arith}
 use Rattle.std.specs.Prelude.{IsTrue}
 use Rattle.std.proofs.lemmas.Result.{err_from_is_err_and}
 use Rattle.normal_law.specs.NormalForm.{normal_form}
 use Rattle.edge_text.proofs.AgainLemmas.{distinct-of_once}
-use Rattle.import_text.specs.Gathering.{Gathered}
-use Rattle.import_text.specs.Reading.{GathersCopy}
 use Rattle.import_text.proofs.GoodLemmas.{IsStart, good_place, good_names, good_vertices, gathers_copy}
 use Rattle.import_text.proofs.reading.gather_copy.Goals as goal
 

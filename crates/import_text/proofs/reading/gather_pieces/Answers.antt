@@ -1,10 +1,10 @@
-use Rattle.std.proofs.Common.{◌≡◌, List, ℕ, [], ◌++◌, take, sym, ap, ◌∙◌, refl, arith, length, length-take-le, subst, Some, None}
+use Rattle.std.proofs.Common.{◌≡◌, List, ℕ, [], ◌++◌, take, sym, ap, ◌∙◌, refl, arith, length-take-le, subst, Some, None}
 use Rattle.std.specs.Prelude.{IsTrue}
 use Rattle.edge_text.specs.EdgesText.{edges_fault}
 use Rattle.edge_text.proofs.FeedLemmas.{reads_fault, reads_all}
 use Rattle.disk_model.specs.Disk.{Contents, Reads}
 use Rattle.normal_law.specs.NormalForm.{normal_form}
-use Rattle.import_text.proofs.ReadLemmas.{looks_none, looks_then, gives_from_reads, bad_text, reading_cause, gathering_start, gathering_on, gathering_ends}
+use Rattle.import_text.proofs.ReadLemmas.{looks_none, looks_then, gives_from_reads, bad_text, gathering_start, gathering_on, gathering_ends}
 use Rattle.import_text.proofs.reading.gather_pieces.Goals as goal
 
 pub loop-n-init : goal.loop-n-init
@@ -47,8 +47,8 @@ loop-n-preserved g c =
         gathering.0 ++ take c.in_ok-n.n c.read.new.buf,
         gathering.1 ++ t.found,
         gathering_on (normal_form c.args.normal.now) (λ f. IsTrue g.D.Disk.tells × (f ≡ g.D.Disk.seen c.args.disk.now c.args.file)) c.args.gathering.now c.loop-n.gathering c.take.new.self gathering.0 gathering.1 c.loop-n.place c.in_ok-n.n c.read.new.buf c.loop-n.invariant.place
-          (λ f t. gives_from_reads f c.loop-n.place c.read.new.buf c.in_ok-n.n (subst (λ (b : List ℕ). Reads b c.loop-n.place c.read.new.buf c.in_ok-n.n) (ap (λ (s : Contents). s c.args.file) c.loop-n.invariant.looks.same_seen ∙ sym t.1) (c.in_ok-n.ensures.bytes t.0)))
-          c.in_ok-n.ensures.count gathering.2 t,
+            (λ f t. gives_from_reads f c.loop-n.place c.read.new.buf c.in_ok-n.n (subst (λ (b : List ℕ). Reads b c.loop-n.place c.read.new.buf c.in_ok-n.n) (ap (λ (s : Contents). s c.args.file) c.loop-n.invariant.looks.same_seen ∙ sym t.1) (c.in_ok-n.ensures.bytes t.0)))
+            c.in_ok-n.ensures.count gathering.2 t,
       );
     }
 

@@ -1,10 +1,7 @@
-use Rattle.std.proofs.Common.{arith, ◌≡◌, List, ap, subst}
-use Rattle.std.specs.Prelude.{IsTrue, Contains}
+use Rattle.std.proofs.Common.{arith}
+use Rattle.std.specs.Prelude.{IsTrue}
 use Rattle.std.proofs.lemmas.Result.{err_from_is_err_and}
-use Rattle.graph_words.specs.declared.types.Edge.{Edge}
-use Rattle.normal_law.specs.NormalForm.{normal_form}
 use Rattle.closing_machine.proofs.Members.{All-from_members}
-use Rattle.edge_text.specs.EdgesText.{edges_of}
 use Rattle.import_text.specs.Given.{IsFrom}
 use Rattle.import_text.proofs.FitLemmas.{gives_part, fits_part}
 use Rattle.import_text.proofs.reading.given_edges.Goals as goal

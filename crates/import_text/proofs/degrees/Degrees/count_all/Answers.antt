@@ -1,4 +1,3 @@
-use Rattle.std.proofs.Common.{◌+◌, arith, length-take-le}
 use Rattle.import_text.proofs.DegreeLemmas.{Counted-step}
 use Rattle.import_text.proofs.degrees.Degrees.count_all.Goals as goal
 

@@ -1,4 +1,4 @@
-use Rattle.std.proofs.Common.{◌≡◌, ◌<◌, ◌≤◌, max, length, sym, ap, ◌∙◌, refl, arith, subst}
+use Rattle.std.proofs.Common.{◌≤◌, max, length, sym, ap, ◌∙◌, refl, arith, subst}
 use Rattle.std.proofs.lemmas.Result.{err_from_is_err_and}
 use Rattle.normal_law.specs.NormalForm.{normal_form}
 use Rattle.edge_text.specs.EdgesText.{vertex_count_of}
@@ -6,7 +6,6 @@ use Rattle.edge_text.specs.Feeding.{IsFed}
 use Rattle.import_text.specs.Gathering.{Gathered, GathersEnd}
 use Rattle.import_text.proofs.DegreeLemmas.{few_numbered}
 use Rattle.import_text.proofs.TallyLemmas.{fed_on, numbered_added, named_added}
-use Rattle.import_text.proofs.GivenLemmas.{AddsJust-same}
 use Rattle.import_text.proofs.gathering.Gathering.finish.Goals as goal
 
 pub returns-in_err-finish-clause-fault : goal.returns-in_err-finish-clause-fault

@@ -1,4 +1,4 @@
-use Rattle.std.proofs.Common.{◌≡◌, ◌<◌, ◌≤◌, max, length, sym, ap, ◌∙◌, refl, arith, subst}
+use Rattle.std.proofs.Common.{◌≤◌, max, length, sym, ap, ◌∙◌, refl, arith, subst}
 use Rattle.std.proofs.lemmas.Result.{err_from_is_err_and}
 use Rattle.normal_law.specs.NormalForm.{normal_form}
 use Rattle.edge_text.specs.EdgesText.{vertex_count_of}
