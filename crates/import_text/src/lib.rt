@@ -6,12 +6,14 @@ mod degrees;
 mod fault;
 mod gathering;
 mod given;
+mod laws;
 mod parting;
 mod reading;
 mod tally;
 
 pub use copying::{Copied, copy_edges};
 pub use fault::TextFault;
+pub use laws::copies_are_good;
 pub use reading::given_edges;
 
 #[cfg(test)]

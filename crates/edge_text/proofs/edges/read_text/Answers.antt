@@ -33,9 +33,9 @@ loop-edges-preserved g c =
       count = λ k. let one = c.loop-edges.invariant.count k in let two = c.in_ok-n.ensures.others k in omega arith;
       reads = (
         c.loop-edges.invariant.reads.0 ++ take c.in_ok-n.n c.read.new.buf,
-          reads_on (λ file. g.I.Inputs.told c.args.inputs.now c.args.name.now ≡ Some file) c.args.reader.now c.loop-edges.reader c.loop-edges.invariant.reads.0 c.loop-edges.place c.loop-edges.invariant.place c.read.new.buf c.in_ok-n.n c.loop-edges.edges.items
-          (λ file t. c.in_ok-n.ensures.bytes file (ap (λ f. f c.args.name.now) c.loop-edges.invariant.kept ∙ t))
-          c.loop-edges.invariant.reads.1 c.feed.new.self c.feed.new.edges.items c.in_ok-n.ensures.count there (λ names. c.in_ok-feed.ensures.ok names c.loop-edges.invariant.reads.0 []),
+        reads_on (λ file. g.I.Inputs.told c.args.inputs.now c.args.name.now ≡ Some file) c.args.reader.now c.loop-edges.reader c.loop-edges.invariant.reads.0 c.loop-edges.place c.loop-edges.invariant.place c.read.new.buf c.in_ok-n.n c.loop-edges.edges.items
+            (λ file t. c.in_ok-n.ensures.bytes file (ap (λ f. f c.args.name.now) c.loop-edges.invariant.kept ∙ t))
+            c.loop-edges.invariant.reads.1 c.feed.new.self c.feed.new.edges.items c.in_ok-n.ensures.count there (λ names. c.in_ok-feed.ensures.ok names c.loop-edges.invariant.reads.0 []),
       );
     }
 
