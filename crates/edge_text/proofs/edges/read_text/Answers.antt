@@ -1,4 +1,4 @@
-use Rattle.std.proofs.Common.{◌≡◌, List, ℕ, Some, [], ◌++◌, take, sym, ap, ◌∙◌, refl, arith, length-take-le}
+use Rattle.std.proofs.Common.{◌≡◌, Some, [], ◌++◌, take, sym, ap, ◌∙◌, refl, arith, length-take-le}
 use Rattle.std.proofs.lemmas.Result.{err_from_is_err_and}
 use Rattle.io_edge.proofs.DeviceLemmas.{Rose-later}
 use Rattle.edge_text.proofs.FeedLemmas.{reads_start, reads_on, reads_fault, reads_all}

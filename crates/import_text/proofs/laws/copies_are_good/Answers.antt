@@ -1,6 +1,6 @@
-use Rattle.std.proofs.Common.{◌≡◌, List, ap, sym, subst, refl, arith}
+use Rattle.std.proofs.Common.{List, ap, subst, refl, arith}
 use Rattle.graph_words.specs.declared.types.Edge.{Edge}
-use Rattle.edge_text.specs.EdgesText.{ReadsEdges, edges_of, vertex_count_of}
+use Rattle.edge_text.specs.EdgesText.{ReadsEdges, vertex_count_of}
 use Rattle.edge_text.proofs.AgainLemmas.{reads_again}
 use Rattle.import_text.proofs.laws.copies_are_good.Goals as goal
 
