@@ -8,15 +8,8 @@ use Rattle.graph_words.specs.declared.types.Born.{Born}
 use Rattle.disk_model.specs.declared.form_kind.FormKind.TheVariants.{BadLabel, BadOrder, BadVertex, BadBirth}
 use Rattle.partition_file.specs.declared.types.Expect.{Expect}
 use Rattle.partition_file.specs.Reading.{Behind, need, edge, born, is_known, is_above, label_at, label_then, destination_at, destination_then, birth_at, birth_then}
-use Rattle.partition_file.specs.Spelling.{found, FitsEdge, edge_bytes}
-use Rattle.partition_file.proofs.NumberLaws.{IsBytes, Takes, Takes-then, wide2, wide4, wide8, need_takes, number_takes, number_again}
-
--- numbers of an Expect fit their types
-pub record IsExpect (e : Expect) : Type 0 where
-  pub lo : e.lo < 2 ^ 32
-  pub hi : e.hi < 2 ^ 32
-  pub vertices : e.vertices < 2 ^ 32
-  pub round : e.round < 2 ^ 64
+use Rattle.partition_file.specs.Spelling.{found, FitsEdge, IsBytes, IsExpect, edge_bytes}
+use Rattle.partition_file.proofs.NumberLaws.{Takes, Takes-then, wide2, wide4, wide8, need_takes, number_takes, number_again}
 
 -- the edge stands above the one before it in the row
 abbrev pub IsAbove : Option Edge → Edge → Type 0

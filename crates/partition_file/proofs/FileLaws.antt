@@ -13,9 +13,8 @@ use Rattle.partition_file.specs.declared.types.Format.TheVariants.{First}
 use Rattle.partition_file.specs.declared.types.PartError.{PartError}
 use Rattle.partition_file.specs.declared.types.PartError.TheVariants as errors
 use Rattle.partition_file.specs.Reading.{Found, need, rows_of, first_magic, format_of, in_format, high_at, high_then, low_at, low_then, magic_at, magic_then, reading}
-use Rattle.partition_file.specs.Spelling.{found, Part, FitsEdge, Fits, rows_bytes, spelling, Spells, Decodes, Answers}
-use Rattle.partition_file.proofs.NumberLaws.{IsBytes, Takes-then, wide4, need_takes, number_takes, number_again}
-use Rattle.partition_file.proofs.EdgeLaws.{IsExpect}
+use Rattle.partition_file.specs.Spelling.{found, Part, FitsEdge, Fits, IsBytes, IsExpect, rows_bytes, spelling, Spells, Decodes, Answers}
+use Rattle.partition_file.proofs.NumberLaws.{Takes-then, wide4, need_takes, number_takes, number_again}
 use Rattle.partition_file.proofs.Splits.{Above, Ascends-from_pairs, pairs_from_Ascends}
 use Rattle.partition_file.proofs.RowLaws.{rows_take, rows_again}
 
@@ -109,3 +108,8 @@ only_at_err view e bytes (errors.Fault f) p ex given fits spells =
     let again : (reading e bytes).fault ≡ None = ap (λ (x : Found). x.fault) (file_again e bytes p ex fits spells) in
     absurd (cc)
 only_at_err view e bytes errors.NoMemory p ex given fits spells = tt
+
+-- bytes spell at most one partition that is expected
+pub one_part : (e : Expect) (bytes : List ℕ) (p q : Part) → IsExpect e → Fits e p → Fits e q → Spells bytes p → Spells bytes q → p ≡ q
+one_part e bytes p q ex p-fits q-fits p-spells q-spells =
+    the_part e p p-fits ∙ only_at_ok e bytes p.edges q ex (file_again e bytes p ex p-fits p-spells) q-fits q-spells

@@ -1,5 +1,5 @@
 -- A number that is read is the number that was written, and what was written is read again.
-use Rattle.std.proofs.Common.{◌≡◌, ℕ, ◌+◌, ◌^◌, ◌<◌, ◌≤◌, Bool, true, false, cond, ltb, List, ◌++◌, length, get_or, take, drop, refl, sym, ap, ◌∙◌, append_assoc, arith, inl, inr}
+use Rattle.std.proofs.Common.{◌≡◌, ℕ, ◌+◌, ◌^◌, ◌<◌, ◌≤◌, Bool, true, false, cond, ltb, List, ◌++◌, length, take, drop, refl, sym, ap, ◌∙◌, append_assoc, arith, inl, inr}
 use Rattle.std.proofs.lemmas.Bool.{cases_lt, ltb-false}
 use Rattle.std.proofs.lemmas.List.{take-append-drop, length-take, get_or-drop, get_or-take, get_or_past}
 use Rattle.std.proofs.lemmas.Nat.{le_bytes_2, le_bytes_4, le_bytes_8}
@@ -9,11 +9,8 @@ use Rattle.disk_model.specs.declared.form_kind.FormKind.{FormKind}
 use Rattle.disk_model.specs.declared.form_kind.FormKind.TheVariants.{Short}
 use Rattle.graph_words.specs.declared.types.Born.{Born}
 use Rattle.partition_file.specs.Reading.{Found, Behind, number, need, stop}
-use Rattle.partition_file.specs.Spelling.{found}
+use Rattle.partition_file.specs.Spelling.{IsBytes, found}
 use Rattle.partition_file.proofs.Numbers.{number_whole}
-
-abbrev pub IsBytes : List ℕ → Type 0
-IsBytes bytes = (i : ℕ) → get_or bytes i 0 < 256
 
 IsBytes-drop : (n : ℕ) (bytes : List ℕ) → IsBytes bytes → IsBytes (drop n bytes)
 IsBytes-drop n bytes h i = rw get_or-drop (h (n + i))
