@@ -1,16 +1,22 @@
 //! What the contents of a disk list, when they list exactly the closure of two texts, and what stopped runs may leave.
 #![tactic(auto)]
 
-ghost use Rattle.std.specs.Prelude.{List, ℕ};
+ghost use Rattle.std.specs.Prelude.{◌≡◌, ◌≤◌, List, ℕ, Ok};
 ghost use Rattle.graph_words.specs.declared.types.Born.{Born as ABorn};
 ghost use Rattle.closing_machine.specs.State.{IsCut};
 ghost use Rattle.closing_machine.specs.Parts.{ArePartitions};
 ghost use Rattle.disk_model.specs.Disk.{Contents};
 ghost use Rattle.manifest.specs.declared.types.Manifest.{Manifest as AManifest};
 ghost use Rattle.manifest.specs.Spelling.{Fits};
+ghost use Rattle.manifest_switch.specs.declared.slot.Slot.{Slot as ASlot};
+ghost use Rattle.manifest_switch.specs.declared.slot.Found.TheVariants.{At};
+ghost use Rattle.manifest_switch.specs.Slots.{IsBlank, current_of};
+ghost use Rattle.manifest_switch.specs.Steps.{IsMade, Stays, Switches};
 ghost use Rattle.store_law.specs.Texts.{Texts};
 ghost use Rattle.store_law.specs.Listed.{AreExact, AreListed, ends_of};
-ghost use Rattle.store_law.specs.Left.{IsDone, IsLeft, IsStore};
+ghost use Rattle.store_law.specs.Left.{IsDone, IsLeft, IsStore, IsStoreOf};
+ghost use Rattle.store_law.specs.Imported.{IsImported};
+ghost use Rattle.store_law.specs.Steps.{IsFree, OnlyFile};
 
 /// The partitions that a manifest lists are partitions of its intervals, which cut the vertices.
 pub fn listed_are_partitions()
@@ -26,4 +32,29 @@ pub fn finished_stores_are_exact()
 /// A store of two texts is what a stopped run may leave.
 pub fn stores_are_left()
     ensures { (t : Texts) (c : Contents) (m : AManifest) (parts : List (List ABorn)) → IsStore t c m parts → IsLeft t c }
+{}
+
+/// A fresh store is a store.
+pub fn imported_is_a_store()
+    ensures { (t : Texts) (limit : ℕ) (c : Contents) (m : AManifest) (parts : List (List ABorn)) → IsImported t limit c m parts → IsStore t c m parts }
+{}
+
+/// The files that a manifest names list one choice of partitions at most.
+pub fn bytes_tell_what_is_listed()
+    ensures { (c : Contents) (m : AManifest) (fresh : ℕ) (xs ys : List (List ABorn)) → Fits m → AreListed c m fresh xs → AreListed c m fresh ys → xs ≡ ys }
+{}
+
+/// What a crash during a switch leaves is a store of the texts or blank, as the contents before were, where with the next manifest they would be a store of them too.
+pub fn a_switch_leaves_a_store()
+    ensures stays { (t : Texts) (d c : Contents) → Stays d c → IsLeft t d → IsLeft t c }
+    ensures made { (t : Texts) (seen c : Contents) (m : AManifest) (parts : List (List ABorn)) → IsStoreOf t seen m parts → IsMade seen m c → IsStore t c m parts }
+    ensures step { (t : Texts) (d seen c : Contents) (m : AManifest) (parts : List (List ABorn)) → IsLeft t d → IsStoreOf t seen m parts → Switches seen m d c → IsLeft t c }
+{}
+
+/// A file that the current manifest doesn't name may change.
+pub fn other_files_may_change()
+    ensures store { (t : Texts) (d c : Contents) (m : AManifest) (parts : List (List ABorn)) (f : ℕ) → IsFree m f → OnlyFile f d c → IsStore t d m parts → IsStore t c m parts }
+    ensures rest { (t : Texts) (d c : Contents) (m : AManifest) (parts : List (List ABorn)) (f : ℕ) → IsFree m f → OnlyFile f d c → IsStoreOf t d m parts → IsStoreOf t c m parts }
+    ensures current { (d c : Contents) (f : ℕ) → 2 ≤ f → OnlyFile f d c → current_of c ≡ current_of d }
+    ensures left { (t : Texts) (d c : Contents) (f : ℕ) → 2 ≤ f → ((s : ASlot) (m : AManifest) → current_of d ≡ Ok (At s m) → IsFree m f) → OnlyFile f d c → IsLeft t d → IsLeft t c }
 {}
