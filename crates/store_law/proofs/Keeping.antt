@@ -1,7 +1,7 @@
 -- What a store is made of, and which files may change.
-use Rattle.std.proofs.Common.{◌≡◌, ◌≢◌, ◌⊎◌, inl, inr, ℕ, ◌<◌, ◌≤◌, List, [], length, refl, sym, ◌∙◌, ap, subst, arith}
-use Rattle.std.specs.Prelude.{All, Contains, map, slice_index_or, Ok}
-use Rattle.std.proofs.lemmas.List.{length-map, get_or-map}
+use Rattle.std.proofs.Common.{◌≡◌, ◌≢◌, inl, inr, ℕ, ◌<◌, ◌≤◌, List, [], length, sym, ◌∙◌, ap, subst, arith}
+use Rattle.std.specs.Prelude.{slice_index_or, Ok}
+use Rattle.std.proofs.lemmas.List.{get_or-map}
 use Rattle.graph_words.specs.declared.types.Born.{Born}
 use Rattle.closing_machine.proofs.Running.{opening_holds}
 use Rattle.disk_model.specs.Disk.{Contents}
@@ -12,10 +12,11 @@ use Rattle.manifest.specs.Spelling.{Fits}
 use Rattle.manifest_switch.specs.declared.slot.Slot.{Slot}
 use Rattle.manifest_switch.specs.declared.slot.Found.TheVariants.{At}
 use Rattle.manifest_switch.specs.Slots.{IsBlank, open_body, chosen, current_of}
-use Rattle.manifest_switch.specs.Steps.{IsMade, Stays, Switches}
+use Rattle.manifest_switch.specs.Steps.{IsMade, Keeps, Stays, Switches}
 use Rattle.manifest_switch.proofs.LawLemmas.{blank_iff}
+use Rattle.manifest_switch.proofs.SlotLemmas.{keeps_stays}
 use Rattle.store_law.specs.Texts.{Texts, graph, normal}
-use Rattle.store_law.specs.Listed.{AreListed, part_file, part_of}
+use Rattle.store_law.specs.Listed.{part_file, part_of}
 use Rattle.store_law.specs.Left.{IsCopy, IsLeft, IsOfTexts, IsStore, IsStoreOf}
 use Rattle.store_law.specs.Imported.{IsImported}
 use Rattle.store_law.specs.Steps.{IsFree, OnlyFile}
@@ -90,11 +91,15 @@ module _ (t : Texts) (d c : Contents) (m : Manifest) (parts : List (List Born)) 
 still_blank : (d c : Contents) → current_of c ≡ current_of d → IsBlank d → IsBlank c
 still_blank d c same blank = (blank_iff c).0 (same ∙ (blank_iff d).1 blank)
 
+pub stays_store : (t : Texts) (d c : Contents) (m : Manifest) (parts : List (List Born)) → Stays d c → IsStore t d m parts → IsStore t c m parts
+stays_store t d c m parts stays s = record { slot = s.slot; current = stays.same ∙ s.current; rest = beside_slots t d c m parts stays.others s.rest }
+
 pub stays_left : (t : Texts) (d c : Contents) → Stays d c → IsLeft t d → IsLeft t c
 stays_left t d c stays (inl blank) = inl (still_blank d c stays.same blank)
-stays_left t d c stays (inr left) =
-    let s = left.2 in
-    inr (left.0, left.1, record { slot = s.slot; current = stays.same ∙ s.current; rest = beside_slots t d c left.0 left.1 stays.others s.rest })
+stays_left t d c stays (inr left) = inr (left.0, left.1, stays_store t d c left.0 left.1 stays left.2)
+
+pub keeps_left : (t : Texts) (s : Slot) (d c : Contents) → Keeps s d c → IsLeft t d → IsLeft t c
+keeps_left t s d c keeps left = stays_left t d c (keeps_stays s d c keeps) left
 
 pub made_store : (t : Texts) (seen c : Contents) (m : Manifest) (parts : List (List Born)) → IsStoreOf t seen m parts → IsMade seen m c → IsStore t c m parts
 made_store t seen c m parts s made = record { slot = made.slot; current = made.current; rest = beside_slots t seen c m parts made.others s }

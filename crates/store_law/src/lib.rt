@@ -11,7 +11,7 @@ ghost use Rattle.manifest.specs.Spelling.{Fits};
 ghost use Rattle.manifest_switch.specs.declared.slot.Slot.{Slot as ASlot};
 ghost use Rattle.manifest_switch.specs.declared.slot.Found.TheVariants.{At};
 ghost use Rattle.manifest_switch.specs.Slots.{IsBlank, current_of};
-ghost use Rattle.manifest_switch.specs.Steps.{IsMade, Stays, Switches};
+ghost use Rattle.manifest_switch.specs.Steps.{IsMade, Keeps, Stays, Switches};
 ghost use Rattle.store_law.specs.Texts.{Texts};
 ghost use Rattle.store_law.specs.Listed.{AreExact, AreListed, ends_of};
 ghost use Rattle.store_law.specs.Left.{IsDone, IsLeft, IsStore, IsStoreOf};
@@ -44,8 +44,13 @@ pub fn bytes_tell_what_is_listed()
     ensures { (c : Contents) (m : AManifest) (fresh : ℕ) (xs ys : List (List ABorn)) → Fits m → AreListed c m fresh xs → AreListed c m fresh ys → xs ≡ ys }
 {}
 
-/// What a crash during a switch leaves is a store of the texts or blank, as the contents before were, where with the next manifest they would be a store of them too.
+/// A switch, and the closing of a slot beside the current one, leave a store of the texts where one was.
+///
+/// What a crash leaves of a store is the same store where what is current stays. Where the next
+/// manifest is current it is a store by that one, if what a read gave is one with it.
 pub fn a_switch_leaves_a_store()
+    ensures kept { (t : Texts) (d c : Contents) (m : AManifest) (parts : List (List ABorn)) → Stays d c → IsStore t d m parts → IsStore t c m parts }
+    ensures closed { (t : Texts) (s : ASlot) (d c : Contents) → Keeps s d c → IsLeft t d → IsLeft t c }
     ensures stays { (t : Texts) (d c : Contents) → Stays d c → IsLeft t d → IsLeft t c }
     ensures made { (t : Texts) (seen c : Contents) (m : AManifest) (parts : List (List ABorn)) → IsStoreOf t seen m parts → IsMade seen m c → IsStore t c m parts }
     ensures step { (t : Texts) (d seen c : Contents) (m : AManifest) (parts : List (List ABorn)) → IsLeft t d → IsStoreOf t seen m parts → Switches seen m d c → IsLeft t c }
