@@ -10,35 +10,31 @@ use Rattle.manifest.specs.declared.types.PartEntry.{PartEntry}
 use Rattle.manifest.specs.declared.types.Manifest.{Manifest}
 use Rattle.manifest.specs.Spelling.{Fits}
 use Rattle.manifest_switch.specs.declared.slot.Slot.{Slot}
+use Rattle.manifest_switch.specs.declared.slot.Slot.TheVariants.{Zero}
 use Rattle.manifest_switch.specs.declared.slot.Found.TheVariants.{At}
 use Rattle.manifest_switch.specs.Slots.{IsBlank, open_body, chosen, current_of}
 use Rattle.manifest_switch.specs.Steps.{IsMade, Keeps, Stays, Switches}
 use Rattle.manifest_switch.proofs.LawLemmas.{blank_iff}
 use Rattle.manifest_switch.proofs.SlotLemmas.{keeps_stays}
 use Rattle.store_law.specs.Texts.{Texts, graph, normal}
-use Rattle.store_law.specs.Listed.{part_file, part_of}
+use Rattle.store_law.specs.Listed.{AreListed, part_file, part_of}
 use Rattle.store_law.specs.Left.{IsCopy, IsLeft, IsOfTexts, IsStore, IsStoreOf}
-use Rattle.store_law.specs.Imported.{IsImported}
+use Rattle.store_law.specs.Imported.{IsFresh, IsImported}
 use Rattle.store_law.specs.Steps.{IsFree, OnlyFile}
 use Rattle.store_law.proofs.Named.{task_of_texts}
 
--- texts whose labels a manifest lists are a task
-pub few_names : (t : Texts) (c : Contents) (m : Manifest) → IsOfTexts t c m → length m.labels ≤ 1000
-few_names t c m o = o.fits.labels.short
+pub fresh_holds : (t : Texts) (limit : ℕ) (c : Contents) (m : Manifest) (parts : List (List Born)) → IsFresh t limit c m parts → IsStoreOf t c m parts
+fresh_holds t limit c m parts i =
+    let few = i.texts.fits.labels.short in
+    record {
+      texts = i.texts;
+      listed = i.listed;
+      holds = opening_holds (normal t) (graph t) _ (task_of_texts t (omega (arith, few, ap length i.texts.labels))) i.opening;
+      tells = i.tells;
+    }
 
 pub imported_store : (t : Texts) (limit : ℕ) (c : Contents) (m : Manifest) (parts : List (List Born)) → IsImported t limit c m parts → IsStore t c m parts
-imported_store t limit c m parts i =
-    let few = few_names t c m i.texts in
-    record {
-      slot = _;
-      current = i.current;
-      rest = record {
-        texts = i.texts;
-        listed = i.listed;
-        holds = opening_holds (normal t) (graph t) _ (task_of_texts t (omega (arith, few, ap length i.texts.labels))) i.opening;
-        tells = i.tells;
-      };
-    }
+imported_store t limit c m parts i = record { slot = Zero; current = i.current; rest = fresh_holds t limit c m parts i.fresh }
 
 -- ---- the files that a store reads
 
@@ -56,31 +52,55 @@ file_apart : (m : Manifest) (f i : ℕ) → i < length m.parts → IsFree m f �
 file_apart m f i lt free same = free.unnamed i no_entry lt (sym (entry_file m i lt) ∙ same)
 
 module _ (t : Texts) (d c : Contents) (m : Manifest) (parts : List (List Born)) where
-  -- the copies and the partitions are all that is read beside the slots
-  same_files : c 2 ≡ d 2 → c 3 ≡ d 3 → ((i : ℕ) → i < length m.parts → c (part_file m i) ≡ d (part_file m i)) → IsStoreOf t d m parts → IsStoreOf t c m parts
-  same_files grammar edges files s =
+  -- the copies are all that the texts are compared with
+  same_texts : c 2 ≡ d 2 → c 3 ≡ d 3 → IsOfTexts t d m → IsOfTexts t c m
+  same_texts grammar edges s =
       record {
-        texts = record {
-          good = s.texts.good;
-          fits = s.texts.fits;
-          grammar_copy = subst (λ (l : List ℕ). IsCopy t.grammar l m.grammar_len) (sym grammar) s.texts.grammar_copy;
-          edges_copy = subst (λ (l : List ℕ). IsCopy t.edges l m.edges_len) (sym edges) s.texts.edges_copy;
-          labels = s.texts.labels;
-          vertices = s.texts.vertices;
-        };
-        listed = record {
-          size = s.listed.size;
-          spells = λ i lt. subst (λ (l : List ℕ). Spells l (part_of m i (slice_index_or parts i []))) (sym (files i lt)) (s.listed.spells i lt);
-          fits = s.listed.fits;
-        };
-        holds = s.holds;
-        tells = s.tells;
+        good = s.good;
+        fits = s.fits;
+        grammar_copy = subst (λ (l : List ℕ). IsCopy t.grammar l m.grammar_len) (sym grammar) s.grammar_copy;
+        edges_copy = subst (λ (l : List ℕ). IsCopy t.edges l m.edges_len) (sym edges) s.edges_copy;
+        labels = s.labels;
+        vertices = s.vertices;
       }
 
-  pub beside_slots : ((f : ℕ) → f ≢ 0 → f ≢ 1 → c f ≡ d f) → IsStoreOf t d m parts → IsStoreOf t c m parts
-  beside_slots others s =
-      same_files (others 2 (omega arith) (omega arith)) (others 3 (omega arith) (omega arith))
-      (λ i lt. let high = file_above m i lt s.texts.fits in others (part_file m i) (omega (arith, high)) (omega (arith, high))) s
+  -- and the partitions all that edges are read from
+  same_listed : (fresh : ℕ) → ((i : ℕ) → i < length m.parts → c (part_file m i) ≡ d (part_file m i)) → AreListed d m fresh parts → AreListed c m fresh parts
+  same_listed fresh files s =
+      record {
+        size = s.size;
+        spells = λ i lt. subst (λ (l : List ℕ). Spells l (part_of m i (slice_index_or parts i []))) (sym (files i lt)) (s.spells i lt);
+        fits = s.fits;
+      }
+
+  same_files : c 2 ≡ d 2 → c 3 ≡ d 3 → ((i : ℕ) → i < length m.parts → c (part_file m i) ≡ d (part_file m i)) → IsStoreOf t d m parts → IsStoreOf t c m parts
+  same_files grammar edges files s = record { texts = same_texts grammar edges s.texts; listed = same_listed (normal t).fresh files s.listed; holds = s.holds; tells = s.tells }
+
+  abbrev IsBeside : Type 0
+  IsBeside = (f : ℕ) → f ≢ 0 → f ≢ 1 → c f ≡ d f
+
+  parts_beside : IsBeside → Fits m → (i : ℕ) → i < length m.parts → c (part_file m i) ≡ d (part_file m i)
+  parts_beside others fits i lt = let high = file_above m i lt fits in others (part_file m i) (omega (arith, high)) (omega (arith, high))
+
+  pub beside_slots : IsBeside → IsStoreOf t d m parts → IsStoreOf t c m parts
+  beside_slots others s = same_files (others 2 (omega arith) (omega arith)) (others 3 (omega arith) (omega arith)) (parts_beside others s.texts.fits) s
+
+  -- a fresh store whose manifest went to slot 0
+  pub fresh_switched : (limit : ℕ) → IsFresh t limit d m parts → current_of c ≡ Ok (At Zero m) → IsBeside → IsImported t limit c m parts
+  fresh_switched limit s is others =
+      record {
+        current = is;
+        fresh = record {
+          first = s.first;
+          texts = same_texts (others 2 (omega arith) (omega arith)) (others 3 (omega arith) (omega arith)) s.texts;
+          degrees = s.degrees;
+          counted = s.counted;
+          intervals = s.intervals;
+          listed = same_listed (normal t).fresh (parts_beside others s.texts.fits) s.listed;
+          opening = s.opening;
+          tells = s.tells;
+        };
+      }
 
   pub free_file : (f : ℕ) → IsFree m f → OnlyFile f d c → IsStoreOf t d m parts → IsStoreOf t c m parts
   free_file f free only s =
@@ -113,10 +133,13 @@ switch_left t d seen c m parts left s (inr made) = inr (m, parts, made_store t s
 pub same_current : (d c : Contents) (f : ℕ) → 2 ≤ f → OnlyFile f d c → current_of c ≡ current_of d
 same_current d c f high only = λ i. chosen (open_body (only 0 (omega (arith, high)) i)) (open_body (only 1 (omega (arith, high)) i))
 
+pub free_blank : (d c : Contents) (f : ℕ) → 2 ≤ f → OnlyFile f d c → IsBlank d → IsBlank c
+free_blank d c f high only blank = still_blank d c (same_current d c f high only) blank
+
 pub free_store : (t : Texts) (d c : Contents) (m : Manifest) (parts : List (List Born)) (f : ℕ) → IsFree m f → OnlyFile f d c → IsStore t d m parts → IsStore t c m parts
 free_store t d c m parts f free only s =
     record { slot = s.slot; current = same_current d c f (omega (arith, free.above)) only ∙ s.current; rest = free_file t d c m parts f free only s.rest }
 
 pub free_left : (t : Texts) (d c : Contents) (f : ℕ) → 2 ≤ f → ((s : Slot) (m : Manifest) → current_of d ≡ Ok (At s m) → IsFree m f) → OnlyFile f d c → IsLeft t d → IsLeft t c
-free_left t d c f high free only (inl blank) = inl (still_blank d c (same_current d c f high only) blank)
+free_left t d c f high free only (inl blank) = inl (free_blank d c f high only blank)
 free_left t d c f high free only (inr left) = inr (left.0, left.1, free_store t d c left.0 left.1 f (free left.2.slot left.0 left.2.current) only left.2)

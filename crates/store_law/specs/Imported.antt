@@ -21,10 +21,9 @@ pub record AreDegrees (g : Graph) (degrees : List ℕ) : Type 0 where
   pub size : length degrees ≡ g.vertices
   pub each : (v : ℕ) → v < g.vertices → slice_index_or degrees v 0 ≡ count_by (λ e. e.src.0 == v) g.edges
 
--- The contents are a fresh store of the texts: nothing is joined yet, and the vertices are cut by how many edge lines begin at each.
-pub record IsImported (t : Texts) (limit : ℕ) (c : Contents) (m : Manifest) (parts : List (List Born)) : Type 0 where
-  -- it is the first manifest, so it is in slot 0 and the next one goes to slot 1
-  pub current : current_of c ≡ Ok (At Zero m)
+-- With this manifest as the current one the contents are a fresh store of the texts: nothing is joined yet, and the vertices are cut by how many edge lines begin at each. No slot is looked at.
+pub record IsFresh (t : Texts) (limit : ℕ) (c : Contents) (m : Manifest) (parts : List (List Born)) : Type 0 where
+  -- the next generation is 1
   pub first : m.generation ≡ 0
   -- both texts can be read, and the manifest and the copies are theirs
   pub texts : IsOfTexts t c m
@@ -38,3 +37,9 @@ pub record IsImported (t : Texts) (limit : ℕ) (c : Contents) (m : Manifest) (p
   pub opening : IsOpening (normal t) (graph t) (state_in m parts)
   -- the tables are exact, so that no dirty pair is overlooked
   pub tells : Tells (counts_of m.map) (joined_of m.marks) (newest_of m.marks) (state_in m parts)
+
+-- The contents are a fresh store of the texts, by the manifest in slot 0, which is current.
+pub record IsImported (t : Texts) (limit : ℕ) (c : Contents) (m : Manifest) (parts : List (List Born)) : Type 0 where
+  -- a run finds this manifest, and the next one goes to slot 1
+  pub current : current_of c ≡ Ok (At Zero m)
+  pub fresh : IsFresh t limit c m parts

@@ -1,4 +1,4 @@
-use Rattle.store_law.proofs.Keeping.{free_store, free_file, same_current, free_left}
+use Rattle.store_law.proofs.Keeping.{free_blank, free_file, free_left, free_store, same_current}
 use Rattle.store_law.proofs.other_files_may_change.Goals as goal
 
 pub returns-clause-store : goal.returns-clause-store
@@ -9,6 +9,9 @@ returns-clause-rest c = free_file
 
 pub returns-clause-current : goal.returns-clause-current
 returns-clause-current c = same_current
+
+pub returns-clause-blank : goal.returns-clause-blank
+returns-clause-blank c = free_blank
 
 pub returns-clause-left : goal.returns-clause-left
 returns-clause-left c = free_left
