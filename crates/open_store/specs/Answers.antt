@@ -27,15 +27,18 @@ pub record DiffersFirst (text copy : List ℕ) (place : ℕ) : Type 0 where
   pub same : take place text ≡ take place copy
   pub differ : slice_get text place ≢ slice_get copy place
 
--- a comparison of an input and its copy: what failed has its cause, and else the texts are the same or differ first at the place
-abbrev pub HasCompared : ℕ → ℕ → ℕ → ℕ → InputFile → (Type 0) → (ℕ → Type 0) → Result (Unit {0}) StoreFault → Type 0
-HasCompared reads_before reads_now before now file same differs (Ok x) = same
-HasCompared reads_before reads_now before now file same differs (Err ReadFault) = Rose reads_before reads_now
-HasCompared reads_before reads_now before now file same differs (Err DiskFault) = Rose before now
-HasCompared reads_before reads_now before now file same differs (Err (OtherInput f place)) = (f ≡ file) × differs place
-HasCompared reads_before reads_now before now file same differs (Err NoMemory) = Unit {0}
-HasCompared reads_before reads_now before now file same differs (Err (BadStore f place kind)) = ⊥
-HasCompared reads_before reads_now before now file same differs (Err (InputFault f line kind)) = ⊥
+-- a fault of a comparison has its cause: the input's count rose, or the disk's, or the two texts differ, of which this is said. Want of memory is free.
+abbrev pub HasCompareFault : ℕ → ℕ → ℕ → ℕ → (InputFile → ℕ → Type 0) → StoreFault → Type 0
+HasCompareFault reads_before reads_now before now differ ReadFault = Rose reads_before reads_now
+HasCompareFault reads_before reads_now before now differ DiskFault = Rose before now
+HasCompareFault reads_before reads_now before now differ (OtherInput file place) = differ file place
+HasCompareFault reads_before reads_now before now differ NoMemory = Unit {0}
+HasCompareFault reads_before reads_now before now differ (BadStore file place kind) = ⊥
+HasCompareFault reads_before reads_now before now differ (InputFault file line kind) = ⊥
+
+-- and no difference is a fault yet
+abbrev pub HasCompareCause : ℕ → ℕ → ℕ → ℕ → StoreFault → Type 0
+HasCompareCause reads_before reads_now before now fault = HasCompareFault reads_before reads_now before now (λ file place. ⊥) fault
 
 -- the file of the copy of a text, and how long the manifest says that it is
 abbrev pub copy_file : InputFile → ℕ

@@ -6,6 +6,7 @@ use Rattle.partition_file.specs.declared.types.Expect.{Expect}
 use Rattle.partition_file.specs.Reader.{Reader, prepend, rest_of, taken}
 use Rattle.partition_file.specs.Reading.{reading}
 use Rattle.partition_file.specs.Spelling.{IsBytes, found}
+use Rattle.open_store.specs.declared.stream.PartStream.{PartStream}
 use Rattle.open_store.specs.Reading.{count_into}
 
 -- the reader was given these bytes, and gave these edges
@@ -21,22 +22,16 @@ pub record IsTally (ends : List ℕ) (edges : List Born) (row : List ℕ) (newes
   pub counts : (j : ℕ) → j < length ends → slice_index_or row j 0 ≡ count_into ends edges j
   pub newest_is : newest ≡ greatest_birth edges
 
--- a file of a disk that is read from its start on: the reader, the file's number, how far it was read, and how long it is
-pub record Stream : Type 0 where
-  pub reader : Reader
-  pub file : ℕ
-  pub place : ℕ
-  pub len : ℕ
-
--- there is such a file, and it was read no further than its end
-pub record IsStream (s : Stream) : Type 0 where
+-- there is such a file, it was read no further than its end, and there is room for a piece
+pub record IsStream (s : PartStream) : Type 0 where
   pub file : s.file < 1024
   pub within : s.place ≤ s.len
   pub small : s.len < 2 ^ 64
   pub taken_within : taken s.reader ≤ s.place
+  pub room : 0 < length s.piece.items
 
 -- the stream gave these bytes to its reader, which gave these edges; where the file is known, the bytes are its first
-pub record IsAt (e : Expect) (tells : Bool) (file : List ℕ) (bytes : List ℕ) (edges : List Born) (s : Stream) : Type 0 where
+pub record IsAt (e : Expect) (tells : Bool) (file : List ℕ) (bytes : List ℕ) (edges : List Born) (s : PartStream) : Type 0 where
   pub read : HasRead e bytes edges s.reader
   pub place_is : length bytes ≡ s.place
   pub front : IsTrue tells → bytes ≡ take s.place file

@@ -1,5 +1,5 @@
 //! The copy of the grammar's text.
-ghost use Rattle.std.specs.Prelude.{◌≡◌, ◌≢◌, ◌↔◌, ◌<◌, ◌≤◌, ℕ, List, IsTrue, length, take, IfOk};
+ghost use Rattle.std.specs.Prelude.{◌≡◌, ◌≢◌, ◌<◌, ◌≤◌, ℕ, List, IsTrue, true, false, length, take, slice_get, Some, IfOk};
 ghost use Rattle.graph_words.specs.declared.types.Rule.{Rule as ARule};
 ghost use Rattle.grammar_norm.specs.GrammarText.{ReadsGrammar};
 ghost use Rattle.manifest.specs.Spelling.{Fits};
@@ -13,6 +13,7 @@ ghost use Rattle.open_store.specs.Copy.{IsBadCopy, IsCopyRead};
 use crate::fault::StoreFault;
 use disk_model::{Disk, FormKind};
 use grammar_norm::{Grammar, GrammarFault, LabelTable, read_grammar};
+use label_table::Name;
 use manifest::Manifest;
 use manifest_switch::Slot;
 use std::alloc::Global;
@@ -54,15 +55,25 @@ fn copy_bytes<D: Disk>(alloc: Global, disk: &mut D, size: u64) -> Result<Vec<u8>
     Ok(bytes)
 }
 
+// Whether a name stands at a place among names.
+fn has_at(names: &[Name], i: usize, name: &Name) -> bool
+    ensures has { result ≡ true → slice_get names.now i ≡ Some name.now }
+    ensures not { result ≡ false → slice_get names.now i ≢ Some name.now }
+{
+    match names.get(i) {
+        Some(other) => other.as_slice() == name.as_slice(),
+        None => false,
+    }
+}
+
 // Whether the names of a table begin with those of another.
 fn begins_with(all: &LabelTable, front: &LabelTable) -> bool
-    ensures { IsTrue result ↔ (take (length front.now) all.now ≡ front.now) }
+    ensures begins { result ≡ true → take (length front.now) all.now ≡ front.now }
+    ensures differs { result ≡ false → take (length front.now) all.now ≢ front.now }
 {
-    if all.len() < front.len() {
-        return false;
-    }
-    for (name, other) in front.names().iter().zip(all.names()) {
-        if name.as_slice() != other.as_slice() {
+    let names = all.names();
+    for (i, name) in front.names().iter().enumerate() {
+        if !has_at(names, i, name) {
             return false;
         }
     }

@@ -1,5 +1,5 @@
 //! Partitions are loaded, or only counted.
-ghost use Rattle.std.specs.Prelude.{◌≡◌, ◌↔◌, ◌<◌, ◌≤◌, ◌+◌, ◌++◌, ◌^◌, [], ℕ, List, IsTrue, length, slice_index_or, Err, IfOk, OnOk};
+ghost use Rattle.std.specs.Prelude.{◌≡◌, ◌↔◌, ◌<◌, ◌≤◌, ◌+◌, ◌++◌, ◌^◌, [], ℕ, List, IsTrue, true, false, length, slice_index_or, Err, IfOk, OnOk};
 ghost use Rattle.graph_words.specs.declared.types.Born.{Born as ABorn};
 ghost use Rattle.dest_map.specs.Table.{counts_of};
 ghost use Rattle.disk_model.specs.declared.form_kind.FormKind.TheVariants.{Counts};
@@ -10,7 +10,7 @@ ghost use Rattle.store_law.specs.Listed.{part_file, part_of};
 ghost use Rattle.open_store.specs.Answers.{HasDiskCause, blames_none};
 ghost use Rattle.open_store.specs.Reading.{IsRead, IsRefused, IsTold, count_below_of};
 ghost use Rattle.open_store.specs.Store.{expect_in};
-ghost use Rattle.open_store.specs.Streaming.{IsAt, IsTally};
+ghost use Rattle.open_store.specs.Streaming.{IsAt, IsStream, IsTally};
 
 use crate::fault::StoreFault;
 use crate::store::Store;
@@ -30,7 +30,7 @@ impl Store {
         i: usize,
     ) -> Result<PartStream, StoreFault>
         requires { i < length self.now.manifest.parts }
-        ensures begun { IfOk result (λ s. (s.file ≡ part_file self.now.manifest i) × IsAt (expect_in self.now i) D.tells (D.seen disk.old (part_file self.now.manifest i)) [] [] s) }
+        ensures begun { IfOk result (λ s. (s.file ≡ part_file self.now.manifest i) × IsStream s × IsAt (expect_in self.now i) D.tells (D.seen disk.old (part_file self.now.manifest i)) [] [] s) }
         ensures looks { OnlyLooks D.seen D.may_leave D.moment D.left_since disk.old disk.new }
         ensures later { D.faults disk.old ≤ D.faults disk.new }
         ensures cause { HasDiskCause (D.faults disk.old) (D.faults disk.new) blames_none result }
@@ -38,11 +38,12 @@ impl Store {
         PartStream::begin(alloc, disk, self.file(i), self.expect(i))
     }
 
-    // Whether the manifest's counts for partition `i` and its newest birth are these.
+    // Whether the manifest's counts for partition `i` and its newest birth are those of a tally.
     fn tells(&self, i: usize, tally: &Tally) -> bool
         requires i { i < length self.now.manifest.parts }
         requires row { length tally.now.row.items ≡ length self.now.manifest.parts }
-        ensures { IsTrue result ↔ (((j : ℕ) → j < length self.now.manifest.parts → counts_of self.now.manifest.map i j ≡ slice_index_or tally.now.row.items j 0) × (newest_of self.now.manifest.marks i ≡ tally.now.newest)) }
+        ensures told { result ≡ true → (edges : List ABorn) → IsTally self.now.ends edges tally.now.row.items tally.now.newest → IsTold self.now.manifest i edges }
+        ensures other { result ≡ false → (edges : List ABorn) → IsTally self.now.ends edges tally.now.row.items tally.now.newest → IsTold self.now.manifest i edges → ⊥ }
     {
         for (j, count) in tally.row.iter().enumerate() {
             if self.manifest.map.count(i, j) != *count {

@@ -1,5 +1,5 @@
 //! Partitions are put into files that no manifest names.
-ghost use Rattle.std.specs.Prelude.{◌≡◌, ◌≢◌, ◌<◌, ◌≤◌, ◌+◌, ◌⊎◌, ◌-◌, ℕ, IsTrue, Contains, All, length, map, OnOk, IsErrOf};
+ghost use Rattle.std.specs.Prelude.{◌≡◌, ◌≢◌, ◌<◌, ◌≤◌, ℕ, IsTrue, true, false, Contains, All, length, OnOk, IsErrOf};
 ghost use Rattle.disk_model.specs.Disk.{Sets};
 ghost use Rattle.disk_model.specs.Crash.{LeavesOnly, From};
 ghost use Rattle.disk_files.specs.Files.{OnlyFile};
@@ -7,7 +7,9 @@ ghost use Rattle.partition_file.specs.declared.types.Format.TheVariants.{First};
 ghost use Rattle.partition_file.specs.Spelling.{spelling};
 ghost use Rattle.open_store.specs.declared.fault.StoreFault.TheVariants.{NoMemory};
 ghost use Rattle.open_store.specs.Answers.{HasDiskCause, blames_none};
-ghost use Rattle.open_store.specs.Free.{IsFree, files_of};
+ghost use Rattle.manifest.specs.declared.types.PartEntry.{PartEntry as APartEntry};
+ghost use Rattle.store_law.specs.Steps.{IsFree};
+ghost use Rattle.open_store.specs.Free.{IsUsed};
 
 use crate::fault::StoreFault;
 use crate::store::Store;
@@ -22,8 +24,8 @@ const FIRST_FILE: u32 = 4;
 
 // Whether the file of some partition has the number.
 fn is_named(parts: &[PartEntry], file: u32) -> bool
-    ensures named { IsTrue result → Contains (files_of parts.now) file }
-    ensures free { (IsTrue result → ⊥) → All (λ f. f ≢ file) (files_of parts.now) }
+    ensures named { result ≡ true → (p : APartEntry) × Contains parts.now p × (p.file ≡ file) }
+    ensures free { result ≡ false → All (λ p. p.file ≢ file) parts.now }
 {
     for part in parts {
         if part.file == file {
@@ -38,9 +40,10 @@ impl Store {
     /// those taken. At most 256 are taken, so that it is below 1,024.
     pub fn free_file(&self, taken: &[u32]) -> u32
         requires { length taken.now ≤ 256 }
-        ensures free { IsFree (files_of self.now.manifest.parts) taken.now result }
-        ensures least { (file : ℕ) → 4 ≤ file → file < result → Contains (files_of self.now.manifest.parts) file ⊎ Contains taken.now file }
-        ensures within { (4 ≤ result) × (result < 1024) }
+        ensures free { IsFree self.now.manifest result }
+        ensures untaken { All (λ f. f ≢ result) taken.now }
+        ensures least { (file : ℕ) → 4 ≤ file → file < result → IsUsed self.now.manifest.parts taken.now file }
+        ensures within { result < 1024 }
     {
         let mut file = FIRST_FILE;
         while is_named(self.manifest.parts.as_slice(), file) || taken.contains(&file) {
@@ -61,9 +64,8 @@ impl Store {
         file: u32,
         part: &Partition,
     ) -> Result<(), StoreFault>
-        requires first { 4 ≤ file }
-        requires last { file < 1024 }
-        requires free { All (λ f. f ≢ file) (files_of self.now.manifest.parts) }
+        requires free { IsFree self.now.manifest file }
+        requires within { file < 1024 }
         ensures any_moment { LeavesOnly D.moment D.left_since disk.old disk.new (From (D.may_leave disk.old) (OnlyFile file)) }
         ensures written { IsTrue D.tells → OnOk result (Sets file (spelling First part.now) (D.seen disk.old) (D.seen disk.new)) }
         ensures memory { IsErrOf result NoMemory → disk.new ≡ disk.old }

@@ -1,21 +1,21 @@
 //! A partition's file, read piece by piece.
-ghost use Rattle.std.specs.Prelude.{◌≡◌, ◌+◌, ◌<◌, ◌≤◌, ◌++◌, [], ℕ, List, IsTrue, true, false, length, Some, Ok, Err, IfOk};
+ghost use Rattle.std.specs.Prelude.{◌≡◌, ◌+◌, ◌^◌, ◌<◌, ◌≤◌, ◌++◌, [], ℕ, List, IsTrue, true, false, length, take, drop, Some, Ok, Err, IfOk};
 ghost use Rattle.graph_words.specs.declared.types.Born.{Born as ABorn};
+ghost use Rattle.disk_model.specs.Disk.{HasCause};
 ghost use Rattle.partition_file.specs.declared.types.Expect.{Expect as AnExpect};
 ghost use Rattle.partition_file.specs.Reader.{rest_of};
 ghost use Rattle.partition_file.specs.Reading.{complete};
-ghost use Rattle.partition_file.specs.Spelling.{first_break};
+ghost use Rattle.partition_file.specs.Spelling.{IsBytes, first_break};
 ghost use Rattle.open_store.specs.declared.fault.StoreFault.TheVariants.{BadStore, DiskFault};
 ghost use Rattle.manifest_switch.specs.Looks.{OnlyLooks};
 ghost use Rattle.open_store.specs.Answers.{HasDiskCause, blames_none};
-ghost use Rattle.open_store.specs.Streaming.{HasEnded, IsAt};
+ghost use Rattle.open_store.specs.Streaming.{HasEnded, IsAt, IsStream};
 
 use crate::fault::StoreFault;
-use disk_model::Disk;
+use disk_model::{Disk, Failed};
 use graph_words::Born;
 use partition_file::{Expect, PartFault, RowReader, RowStep, most_edges, read_piece};
 use std::alloc::Global;
-use std::marker::Model;
 
 /// How many bytes are read at a time.
 pub(crate) const PIECE_LEN: usize = 65_536;
@@ -23,22 +23,11 @@ pub(crate) const PIECE_LEN: usize = 65_536;
 /// A partition's file that is read from its start on. It holds one piece of it.
 #[derive(Drop)]
 pub(crate) struct PartStream {
-    reader: RowReader,
-    file: u32,
-    place: u64,
-    len: u64,
-    piece: Vec<u8>,
-}
-
-impl Model for PartStream {
-    ghost use Rattle.std.specs.Prelude.{◌≡◌, length};
-    ghost use Rattle.open_store.specs.Streaming.{Stream, IsStream};
-
-    ghost Value = { Stream };
-
-    ghost view = { λ s. record { reader = s.reader; file = s.file; place = s.place; len = s.len } };
-
-    ghost invariant = { λ s. (length s.piece.items ≡ 65536) × IsStream (record { reader = s.reader; file = s.file; place = s.place; len = s.len }) };
+    pub reader: RowReader,
+    pub file: u32,
+    pub place: u64,
+    pub len: u64,
+    pub piece: Vec<u8>,
 }
 
 impl PartStream {
@@ -51,7 +40,7 @@ impl PartStream {
     ) -> Result<PartStream, StoreFault>
         requires file { file < 1024 }
         requires bounds { expect.lo < expect.hi }
-        ensures begun { IfOk result (λ s. (s.file ≡ file) × IsAt expect D.tells (D.seen disk.old file) [] [] s) }
+        ensures begun { IfOk result (λ s. (s.file ≡ file) × IsStream s × IsAt expect D.tells (D.seen disk.old file) [] [] s) }
         ensures looks { OnlyLooks D.seen D.may_leave D.moment D.left_since disk.old disk.new }
         ensures later { D.faults disk.old ≤ D.faults disk.new }
         ensures cause { HasDiskCause (D.faults disk.old) (D.faults disk.new) blames_none result }
@@ -78,23 +67,24 @@ impl PartStream {
         disk: &mut D,
         edges: &mut Vec<Born>,
     ) -> Result<bool, StoreFault>
-        ensures more { result ≡ Ok true → (e : AnExpect) (bytes : List ℕ) (front : List ABorn) → IsAt e D.tells (D.seen disk.old self.old.file) bytes (front ++ edges.old.items) self.old
-            → (next : List ℕ) × IsAt e D.tells (D.seen disk.old self.old.file) next (front ++ edges.new.items) self.new }
-        ensures end { result ≡ Ok false → (e : AnExpect) (bytes : List ℕ) (front : List ABorn) → IsAt e D.tells (D.seen disk.old self.old.file) bytes (front ++ edges.old.items) self.old
-            → HasEnded e D.tells (D.seen disk.old self.old.file) bytes (front ++ edges.old.items) × (edges.new ≡ edges.old) }
+        requires { IsStream self.old }
+        ensures stream { result ≡ Ok true → IsStream self.new }
+        ensures more { result ≡ Ok true → (e : AnExpect) (file bytes : List ℕ) (front : List ABorn) → (IsTrue D.tells → D.seen disk.old self.old.file ≡ file) → IsAt e D.tells file bytes (front ++ edges.old.items) self.old
+            → (next : List ℕ) × IsAt e D.tells file next (front ++ edges.new.items) self.new }
+        ensures end { result ≡ Ok false → (e : AnExpect) (file bytes : List ℕ) (front : List ABorn) → (IsTrue D.tells → D.seen disk.old self.old.file ≡ file) → IsAt e D.tells file bytes (front ++ edges.old.items) self.old
+            → HasEnded e D.tells file bytes (front ++ edges.old.items) × (edges.new ≡ edges.old) }
         ensures file { self.new.file ≡ self.old.file }
         ensures further { result ≡ Ok true → (self.old.place < self.new.place) × (self.new.len ≡ self.old.len) }
-        ensures few { length edges.new.items + self.old.place ≤ length edges.old.items + self.new.place }
         ensures looks { OnlyLooks D.seen D.may_leave D.moment D.left_since disk.old disk.new }
         ensures later { D.faults disk.old ≤ D.faults disk.new }
         ensures cause { HasDiskCause (D.faults disk.old) (D.faults disk.new) (λ file place kind. (file ≡ self.old.file)
-            × (IsTrue D.tells → (e : AnExpect) (bytes : List ℕ) (front : List ABorn) → IsAt e D.tells (D.seen disk.old self.old.file) bytes (front ++ edges.old.items) self.old → first_break e (D.seen disk.old self.old.file) ≡ Some (record { place = place; kind = kind }))) result }
+            × (IsTrue D.tells → (e : AnExpect) (file bytes : List ℕ) (front : List ABorn) → D.seen disk.old self.old.file ≡ file → IsAt e D.tells file bytes (front ++ edges.old.items) self.old → first_break e file ≡ Some (record { place = place; kind = kind }))) result }
     {
         if self.place == self.len {
             return self.end();
         }
-        let size = (self.len - self.place).min(PIECE_LEN as u64) as usize;
-        let n = disk.read(self.file, self.place, &mut self.piece[..size])?;
+        let left = self.len - self.place;
+        let n = read_front(disk, self.file, self.place, left, &mut self.piece)?;
         if n == 0 {
             return self.end();
         }
@@ -118,6 +108,33 @@ impl PartStream {
             _ => Ok(false),
         }
     }
+}
+
+// Reads bytes of a file from a place on, at most so many as are left, and answers how many. The
+// piece is made shorter where fewer bytes are left than it has.
+fn read_front<D: Disk>(
+    disk: &mut D,
+    file: u32,
+    place: u64,
+    left: u64,
+    piece: &mut Vec<u8>,
+) -> Result<usize, Failed>
+    requires file { file < 1024 }
+    requires room { place + left < 2 ^ 64 }
+    requires some { 0 < left }
+    requires piece { 0 < length piece.old.items }
+    ensures within { IfOk result (λ n. (n ≤ left) × (n ≤ length piece.new.items)) }
+    ensures none { IsTrue D.tells → place + left ≡ length (D.seen disk.old file) → IfOk result (λ n. 0 < n) }
+    ensures bytes { IsTrue D.tells → IfOk result (λ n. take n piece.new.items ≡ take n (drop place (D.seen disk.old file))) }
+    ensures are_bytes { IfOk result (λ n. IsBytes (take n piece.new.items)) }
+    ensures piece { 0 < length piece.new.items }
+    ensures looks { OnlyLooks D.seen D.may_leave D.moment D.left_since disk.old disk.new }
+    ensures cause { HasCause (D.faults disk.old) (D.faults disk.new) result }
+{
+    if left < piece.len() as u64 {
+        piece.truncate(left as usize);
+    }
+    disk.read(file, place, piece)
 }
 
 // The field of a file that breaks its rule.

@@ -1,5 +1,5 @@
 //! What the edges of a partition count.
-ghost use Rattle.std.specs.Prelude.{◌≡◌, ◌+◌, ◌++◌, ◌∷◌, [], ◌^◌, ◌<◌, ◌≤◌, ℕ, List, length, slice_index_or, IfOk};
+ghost use Rattle.std.specs.Prelude.{◌≡◌, ◌+◌, ◌++◌, ◌∷◌, [], ◌^◌, ◌<◌, ◌≤◌, ℕ, List, length, slice_index_or, slice_set, IfOk};
 ghost use Rattle.graph_words.specs.declared.types.Born.{Born as ABorn};
 ghost use Rattle.closing_machine.specs.State.{place, target};
 ghost use Rattle.intervals.specs.Bounds.{vertices_of, IsCut as IsCutAt};
@@ -33,10 +33,11 @@ fn interval_of(intervals: &Intervals, vertices: u32, v: u32) -> usize
     requires { vertices ≡ vertices_of intervals.now }
     ensures { result ≡ place intervals.now v }
 {
+    let count = intervals.len();
     if v < vertices {
         intervals.find(v)
     } else {
-        intervals.len()
+        count
     }
 }
 
@@ -54,6 +55,18 @@ pub(crate) fn count_below(intervals: &Intervals, i: usize, at: u32, edges: &[Bor
         }
     }
     below
+}
+
+/// Counts one more at a place of a row, where it has the place.
+fn count_at(row: &mut Vec<u64>, j: usize)
+    requires room { slice_index_or row.old.items j 0 + 1 < 2 ^ 64 }
+    ensures within { j < length row.old.items → row.new.items ≡ slice_set row.old.items j (slice_index_or row.old.items j 0 + 1) }
+    ensures behind { length row.old.items ≤ j → row.new.items ≡ row.old.items }
+    ensures little { (k : ℕ) → slice_index_or row.new.items k 0 ≤ slice_index_or row.old.items k 0 + 1 }
+{
+    if j < row.len() {
+        row[j] += 1;
+    }
 }
 
 impl Tally {
@@ -75,9 +88,7 @@ impl Tally {
         ensures room { (j : ℕ) → slice_index_or self.new.row.items j 0 ≤ slice_index_or self.old.row.items j 0 + 1 }
     {
         let j = interval_of(intervals, vertices, born.edge.dst.0);
-        if j < self.row.len() {
-            self.row[j] += 1;
-        }
+        count_at(&mut self.row, j);
         self.newest = self.newest.max(born.birth);
     }
 

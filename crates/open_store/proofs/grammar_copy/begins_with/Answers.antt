@@ -1,0 +1,1 @@
+use Rattle.open_store.proofs.grammar_copy.begins_with.Goals as goal
