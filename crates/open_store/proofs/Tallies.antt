@@ -1,8 +1,11 @@
 -- What a manifest tells of edges that were counted.
-use Rattle.std.proofs.Common.{◌≡◌, ℕ, ◌<◌, List, length, sym, ◌∙◌, ap, arith}
-use Rattle.std.specs.Prelude.{slice_index_or, map}
-use Rattle.std.proofs.lemmas.List.{length-map}
+use Rattle.std.proofs.Common.{◌≡◌, ℕ, ◌<◌, ◌≤◌, List, length, sym, ◌∙◌, ap, arith, inl, inr}
+use Rattle.std.specs.Prelude.{slice_index_or, map, ◌==◌}
+use Rattle.std.proofs.lemmas.List.{get_or_past, length-map}
+use Rattle.std.proofs.lemmas.List.Sums.{count_by-le-length}
+use Rattle.std.proofs.lemmas.Bool.{cases_lt}
 use Rattle.graph_words.specs.declared.types.Born.{Born}
+use Rattle.closing_machine.specs.State.{target}
 use Rattle.dest_map.specs.Table.{counts_of}
 use Rattle.pair_sched.specs.Marks.{newest_of}
 use Rattle.manifest.specs.declared.types.Manifest.{Manifest}
@@ -30,3 +33,10 @@ row_of_told m i ends edges row newest are tally told j low = told.counts j low �
 
 pub newest_of_told : (m : Manifest) (i : ℕ) (ends : List ℕ) (edges : List Born) (row : List ℕ) (newest : ℕ) → IsTally ends edges row newest → IsTold m i edges → newest_of m.marks i ≡ newest
 newest_of_told m i ends edges row newest tally told = told.newest ∙ sym tally.newest_is
+
+-- no count is greater than how many edges there are
+pub cell_few : (ends : List ℕ) (edges : List Born) (row : List ℕ) (newest : ℕ) → IsTally ends edges row newest → (j : ℕ) → slice_index_or row j 0 ≤ length edges
+cell_few ends edges row newest t j = elim (cases_lt j (length ends)) [
+  | inl low ↦ omega (arith, t.counts j low, count_by-le-length (λ (b : Born). target ends b == j) edges)
+  | inr past ↦ omega (arith, get_or_past row j 0 (omega (arith, past, t.size)))
+]

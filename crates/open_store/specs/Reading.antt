@@ -34,4 +34,4 @@ IsRefused s i file place kind =
 
 -- how many of the edges end in interval i below a vertex
 abbrev pub count_below_of : List ℕ → ℕ → ℕ → List Born → ℕ
-count_below_of ends i at edges = count_by (λ b. target ends b == i && nat_lt b.edge.dst.0 at) edges
+count_below_of ends i at edges = count_by (λ b. nat_lt b.edge.dst.0 at && target ends b == i) edges

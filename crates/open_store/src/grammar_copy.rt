@@ -1,5 +1,5 @@
 //! The copy of the grammar's text.
-ghost use Rattle.std.specs.Prelude.{◌≡◌, ◌≢◌, ◌<◌, ◌≤◌, ℕ, List, IsTrue, true, false, length, take, slice_get, Some, IfOk};
+ghost use Rattle.std.specs.Prelude.{◌≡◌, ◌≢◌, ◌↔◌, [], ◌<◌, ◌≤◌, ℕ, List, IsTrue, true, false, length, take, slice_index_or, IfOk};
 ghost use Rattle.graph_words.specs.declared.types.Rule.{Rule as ARule};
 ghost use Rattle.grammar_norm.specs.GrammarText.{ReadsGrammar};
 ghost use Rattle.manifest.specs.Spelling.{Fits};
@@ -55,15 +55,18 @@ fn copy_bytes<D: Disk>(alloc: Global, disk: &mut D, size: u64) -> Result<Vec<u8>
     Ok(bytes)
 }
 
+fn is_same(a: &[u8], b: &[u8]) -> bool
+    ensures { IsTrue result ↔ (a.now ≡ b.now) }
+{
+    a == b
+}
+
 // Whether a name stands at a place among names.
 fn has_at(names: &[Name], i: usize, name: &Name) -> bool
-    ensures has { result ≡ true → slice_get names.now i ≡ Some name.now }
-    ensures not { result ≡ false → slice_get names.now i ≢ Some name.now }
+    ensures has { result ≡ true → (i < length names.now) × (slice_index_or names.now i [] ≡ name.now) }
+    ensures not { result ≡ false → i < length names.now → slice_index_or names.now i [] ≢ name.now }
 {
-    match names.get(i) {
-        Some(other) => other.as_slice() == name.as_slice(),
-        None => false,
-    }
+    i < names.len() && is_same(names[i].as_slice(), name.as_slice())
 }
 
 // Whether the names of a table begin with those of another.

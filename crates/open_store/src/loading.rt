@@ -30,6 +30,7 @@ impl Store {
         i: usize,
     ) -> Result<PartStream, StoreFault>
         requires { i < length self.now.manifest.parts }
+        ensures bounds { (expect_in self.now i).lo < (expect_in self.now i).hi }
         ensures begun { IfOk result (λ s. (s.file ≡ part_file self.now.manifest i) × IsStream s × IsAt (expect_in self.now i) D.tells (D.seen disk.old (part_file self.now.manifest i)) [] [] s) }
         ensures looks { OnlyLooks D.seen D.may_leave D.moment D.left_since disk.old disk.new }
         ensures later { D.faults disk.old ≤ D.faults disk.new }
