@@ -42,6 +42,11 @@ pub fn imported_is_a_store()
     ensures store { (t : Texts) (limit : ℕ) (c : Contents) (m : AManifest) (parts : List (List ABorn)) → IsImported t limit c m parts → IsStore t c m parts }
 {}
 
+/// The texts and the limit determine the intervals of a fresh store and what its partitions list.
+pub fn fresh_stores_are_alike()
+    ensures { (t : Texts) (limit : ℕ) (c d : Contents) (m n : AManifest) (xs ys : List (List ABorn)) → IsFresh t limit c m xs → IsFresh t limit d n ys → (ends_of m ≡ ends_of n) × (xs ≡ ys) }
+{}
+
 /// The files that a manifest names list one choice of partitions at most.
 pub fn bytes_tell_what_is_listed()
     ensures { (c : Contents) (m : AManifest) (fresh : ℕ) (xs ys : List (List ABorn)) → Fits m → AreListed c m fresh xs → AreListed c m fresh ys → xs ≡ ys }
