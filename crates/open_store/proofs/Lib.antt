@@ -5,3 +5,6 @@ pub mod Streams
 pub mod Looking
 pub mod Parts
 pub mod Causes
+pub mod Freeness
+pub mod Differences
+pub mod Copies

@@ -17,3 +17,13 @@ module _ {D : Type 0} (seen : D → Contents) (may_leave : D → Contents → Ty
           keeps = λ t c le left. b.time.keeps t c (omega (arith, le, a.time.later)) (a.time.keeps t c le left);
         };
       }
+
+  pub looks_same : (disk : D) → OnlyLooks seen may_leave moment left_since disk disk
+  looks_same disk =
+      record {
+        same_seen = refl;
+        no_more = λ c now. now;
+        no_less = λ c now. now;
+        past = λ t c left. left;
+        time = record { later = omega arith; nothing_else = λ t c le left. inl left; keeps = λ t c le left. left };
+      }

@@ -1,23 +1,25 @@
 //! An input is compared with its copy.
-ghost use Rattle.std.specs.Prelude.{◌≡◌, ◌≢◌, ◌<◌, ◌≤◌, ◌+◌, ℕ, List, IsTrue, Some, None, Ok, length, take, drop, slice_get, OnOk, IfOk, IfErr};
+ghost use Rattle.std.specs.Prelude.{◌≡◌, ◌≢◌, ◌<◌, ◌≤◌, ◌+◌, ◌^◌, ℕ, List, IsTrue, true, false, Some, None, Ok, length, take, drop, slice_index_or, OnOk, IfOk, IfErr};
 ghost use Rattle.disk_model.specs.Disk.{HasCause};
+ghost use Rattle.io_edge.specs.Devices.{Gives, Rose};
+ghost use Rattle.open_store.specs.declared.fault.StoreFault.TheVariants.{ReadFault};
 ghost use Rattle.io_edge.specs.declared.kinds.InputFile.TheVariants.{Source};
 ghost use Rattle.manifest_switch.specs.Looks.{OnlyLooks};
 ghost use Rattle.open_store.specs.Answers.{DiffersFirst, HasCompareCause, HasCompareFault, copy_file, copy_len, copy_of};
 
 use crate::fault::StoreFault;
 use crate::store::Store;
-use crate::stream::PIECE_LEN;
+use crate::stream::{PIECE_LEN, read_front};
 use disk_model::{Disk, Failed};
 use io_edge::{InputFile, Inputs};
 use std::alloc::Global;
 
-// Where two pieces differ first: at most the length of the shorter one.
+// How many bytes in front are the same in two pieces.
 fn same_front(text: &[u8], copy: &[u8]) -> usize
     ensures text { result ≤ length text.now }
     ensures copy { result ≤ length copy.now }
     ensures same { take result text.now ≡ take result copy.now }
-    ensures differ { result < length text.now → slice_get text.now result ≢ slice_get copy.now result }
+    ensures differ { result < length text.now → result < length copy.now → slice_index_or text.now result 0 ≢ slice_index_or copy.now result 0 }
 {
     let mut n = 0;
     while n < text.len() && n < copy.len() && text[n] == copy[n] {
@@ -40,32 +42,62 @@ fn copy_place(store: &Store, file: InputFile) -> (u32, u64)
     }
 }
 
-// Reads as many bytes of a file from a place on as a text's next piece has, or all that are left of
-// the first `len`, and answers where the two differ first.
+// How many bytes of a text's next piece are those of a file from a place on, and whether the next
+// one differs.
 fn same_piece<D: Disk>(
     disk: &mut D,
     file: u32,
     place: u64,
-    len: u64,
+    left: u64,
     text: &[u8],
-    copy: &mut [u8],
-) -> Result<usize, Failed>
+    copy: &mut Vec<u8>,
+) -> Result<(usize, bool), Failed>
     requires file { file < 1024 }
-    requires place { place ≤ len }
-    requires len { len ≤ 1099511627776 }
-    requires room { length text.now ≤ length copy.old }
-    requires short { length copy.old ≤ 65536 }
-    ensures same { IfOk result (λ n. n ≤ length text.now) }
-    ensures within { IfOk result (λ n. place + n ≤ len) }
-    ensures front { IsTrue D.tells → len ≤ length (D.seen disk.old file) → IfOk result (λ n. take n text.now ≡ take n (drop place (take len (D.seen disk.old file)))) }
-    ensures differ { IsTrue D.tells → len ≤ length (D.seen disk.old file) → IfOk result (λ n. n < length text.now → slice_get text.now n ≢ slice_get (drop place (take len (D.seen disk.old file))) n) }
-    ensures room { length copy.new ≡ length copy.old }
+    requires room { place + left < 2 ^ 64 }
+    requires some { 0 < left }
+    requires copy { 0 < length copy.old.items }
+    requires text { 0 < length text.now }
+    ensures within { IfOk result (λ x. (x.0 ≤ left) × (x.0 ≤ length text.now)) }
+    ensures further { IfOk result (λ x. x.1 ≡ false → 0 < x.0) }
+    ensures same { IsTrue D.tells → place + left ≤ length (D.seen disk.old file) → IfOk result (λ x. take x.0 text.now ≡ take x.0 (drop place (D.seen disk.old file))) }
+    ensures differ { IsTrue D.tells → place + left ≤ length (D.seen disk.old file) → IfOk result (λ x. x.1 ≡ true → (x.0 < left) × (x.0 < length text.now) × (slice_index_or text.now x.0 0 ≢ slice_index_or (drop place (D.seen disk.old file)) x.0 0)) }
+    ensures copy { 0 < length copy.new.items }
     ensures looks { OnlyLooks D.seen D.may_leave D.moment D.left_since disk.old disk.new }
     ensures cause { HasCause (D.faults disk.old) (D.faults disk.new) result }
 {
-    let left = (len - place).min(text.len() as u64) as usize;
-    let n = disk.read(file, place, &mut copy[..left])?;
-    Ok(same_front(text, &copy[..n]))
+    let n = read_front(disk, file, place, left, copy)?;
+    let same = same_front(text, &copy[..n]);
+    Ok((same, n == 0 || (same < text.len() && same < n)))
+}
+
+// Where a text goes on behind a copy that ends at a place, if it has bytes there.
+fn behind(n: usize, place: u64) -> Option<u64>
+    ensures none { result ≡ None → n ≡ 0 }
+    ensures some { (p : ℕ) → result ≡ Some p → (p ≡ place) × (0 < n) }
+{
+    if n == 0 { None } else { Some(place) }
+}
+
+// The next piece of an input, and how many bytes it has.
+fn next_piece<I: Inputs>(
+    inputs: &mut I,
+    name: &str,
+    place: u64,
+    piece: &mut Vec<u8>,
+) -> Result<usize, StoreFault>
+    requires room { place + 65536 < 2 ^ 64 }
+    requires piece { length piece.old.items ≡ 65536 }
+    ensures within { IfOk result (λ n. n ≤ length piece.new.items) }
+    ensures bytes { IfOk result (λ n. (text : List ℕ) → I.told inputs.old name.now ≡ Some text → Gives text place piece.new.items n) }
+    ensures piece { length piece.new.items ≡ 65536 }
+    ensures cause { IfErr result (λ e. (e ≡ ReadFault) × Rose (I.faults inputs.old name.now) (I.faults inputs.new name.now)) }
+    ensures kept { I.told inputs.new ≡ I.told inputs.old }
+    ensures others { (other : List ℕ) → I.faults inputs.old other ≤ I.faults inputs.new other }
+{
+    match inputs.read(name, place, piece) {
+        Ok(n) => Ok(n),
+        Err(_) => Err(StoreFault::ReadFault),
+    }
 }
 
 // Compares an input with the first `len` bytes of a file. The place where they differ first, if they do.
@@ -92,16 +124,16 @@ fn compare<I: Inputs, D: Disk>(
     let mut copy = vec![in alloc; 0; PIECE_LEN]?;
     let mut place = 0;
     loop {
-        let n = match inputs.read(name, place, &mut text) {
-            Ok(n) => n,
-            Err(_) => return Err(StoreFault::ReadFault),
-        };
-        if n == 0 {
-            return Ok(if place < len { Some(place) } else { None });
+        let n = next_piece(inputs, name, place, &mut text)?;
+        if place == len {
+            return Ok(behind(n, place));
         }
-        let same = same_piece(disk, file, place, len, &text[..n], &mut copy)?;
+        if n == 0 {
+            return Ok(Some(place));
+        }
+        let (same, differ) = same_piece(disk, file, place, len - place, &text[..n], &mut copy)?;
         place += same as u64;
-        if same < n {
+        if differ {
             return Ok(Some(place));
         }
     }

@@ -35,6 +35,15 @@ fn is_named(parts: &[PartEntry], file: u32) -> bool
     false
 }
 
+// Whether a file is that of some partition, or taken.
+fn is_used(parts: &[PartEntry], taken: &[u32], file: u32) -> bool
+    ensures used { result ≡ true → IsUsed parts.now taken.now file }
+    ensures unnamed { result ≡ false → All (λ p. p.file ≢ file) parts.now }
+    ensures untaken { result ≡ false → All (λ f. f ≢ file) taken.now }
+{
+    is_named(parts, file) || taken.contains(&file)
+}
+
 impl Store {
     /// The least number of a file, from 4 on, that the manifest doesn't name and that isn't among
     /// those taken. At most 256 are taken, so that it is below 1,024.
@@ -46,7 +55,7 @@ impl Store {
         ensures within { result < 1024 }
     {
         let mut file = FIRST_FILE;
-        while is_named(self.manifest.parts.as_slice(), file) || taken.contains(&file) {
+        while is_used(self.manifest.parts.as_slice(), taken, file) {
             file += 1;
         }
         file

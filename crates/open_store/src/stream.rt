@@ -112,7 +112,7 @@ impl PartStream {
 
 // Reads bytes of a file from a place on, at most so many as are left, and answers how many. The
 // piece is made shorter where fewer bytes are left than it has.
-fn read_front<D: Disk>(
+pub(crate) fn read_front<D: Disk>(
     disk: &mut D,
     file: u32,
     place: u64,
@@ -124,7 +124,7 @@ fn read_front<D: Disk>(
     requires some { 0 < left }
     requires piece { 0 < length piece.old.items }
     ensures within { IfOk result (λ n. (n ≤ left) × (n ≤ length piece.new.items)) }
-    ensures none { IsTrue D.tells → place + left ≡ length (D.seen disk.old file) → IfOk result (λ n. 0 < n) }
+    ensures none { IsTrue D.tells → place + left ≤ length (D.seen disk.old file) → IfOk result (λ n. 0 < n) }
     ensures bytes { IsTrue D.tells → IfOk result (λ n. take n piece.new.items ≡ take n (drop place (D.seen disk.old file))) }
     ensures are_bytes { IfOk result (λ n. IsBytes (take n piece.new.items)) }
     ensures piece { 0 < length piece.new.items }
