@@ -26,7 +26,7 @@ differs_at text file place len n same piece front within low piece-is not =
     record {
       same = front;
       differ = unlike text (take len file) (place + same) (λ is.
-      not (ap (λ (l : List ℕ). get_or l same 0) piece-is ∙ get_or-take n (drop place text) same 0 low ∙ get_or-drop place text same 0 ∙ is ∙ get_or-take len file (place + same) 0 within ∙ sym (get_or-drop place file same 0)));
+          not (ap (λ (l : List ℕ). get_or l same 0) piece-is ∙ get_or-take n (drop place text) same 0 low ∙ get_or-drop place text same 0 ∙ is ∙ get_or-take len file (place + same) 0 within ∙ sym (get_or-drop place file same 0)));
     }
 
 -- the text ends here

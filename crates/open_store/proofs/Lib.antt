@@ -8,3 +8,4 @@ pub mod Causes
 pub mod Freeness
 pub mod Differences
 pub mod Copies
+pub mod Slots

@@ -22,7 +22,10 @@ pub enum StoreFault {
         kind: InputKind,
     },
     /// An input isn't the text of the store. They differ first at this place, in bytes from 0.
-    OtherInput { file: InputFile, place: u64 },
+    OtherInput {
+        file: InputFile,
+        place: u64,
+    },
     /// The bytes of a file of the store break a rule, at this place, in bytes from 0.
     BadStore {
         file: u32,

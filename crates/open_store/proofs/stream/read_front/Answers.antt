@@ -12,4 +12,3 @@ bytes_front n xs within each i = elim (cases_lt i n) [
   | inl low ↦ rw (get_or-take n xs i 0 low) (each i 0 (omega (arith, low, within)))
   | inr past ↦ rw (get_or_past (take n xs) i 0 (omega (arith, past, length-take n xs))) (omega arith)
 ]
-

@@ -7,8 +7,7 @@ use Rattle.open_store.proofs.stream.PartStream.begin.Goals as goal
 pub returns-clause-begun : goal.returns-clause-begun
 returns-clause-begun g c =
     let e = c.args.expect in
-    let none : taken c.new.result ≡ 0 = ap taken c.new.ensures in
-    (
+    let none : taken c.new.result ≡ 0 = ap taken c.new.ensures in (
       refl,
       record { file = c.requires.file; within = omega arith; small = omega arith; taken_within = omega (arith, none); room = omega (arith, c.in_ok-piece.ensures.len, c.in_ok-piece.piece.ok) },
       record {

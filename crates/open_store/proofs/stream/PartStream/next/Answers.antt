@@ -15,12 +15,14 @@ returns-in-Some-clause-cause g c =
     let place = c.args.self.now.place in
     let given : c.deref.result.now ≡ c.read_front.new.piece.items = c.deref.ensures.value in
     let reads : ReadsPiece c.args.self.now.reader c.read_piece.new.reader c.args.edges.now.items c.read_piece.new.edges.items (take n c.deref.result.now) (Some c.in-Some.fault) = rw c.in-Some.is at c.in_ok-fault.ensures.reads in
-    rw c.blamed.ensures
-    (refl, λ tells e file bytes front is at.
-    let same : take n c.deref.result.now ≡ take n (drop place file) = ap (take n) given ∙ c.in_ok-n.ensures.bytes tells ∙ ap (λ (l : List ℕ). take n (drop place l)) is in
-    let all : bytes ++ (take n c.deref.result.now ++ drop n (drop place file)) ≡ file = (λ i. at.front tells i ++ (same i ++ drop n (drop place file))) ∙ all_bytes file place n in
-    ap (first_break e) (sym all)
-    ∙ faulted e bytes (take n c.deref.result.now) front c.args.edges.now.items c.read_piece.new.edges.items c.args.self.now.reader c.read_piece.new.reader c.in-Some.fault at.read reads (drop n (drop place file)))
+    rw c.blamed.ensures (
+      refl,
+      λ tells e file bytes front is at.
+          let same : take n c.deref.result.now ≡ take n (drop place file) = ap (take n) given ∙ c.in_ok-n.ensures.bytes tells ∙ ap (λ (l : List ℕ). take n (drop place l)) is in
+          let all : bytes ++ (take n c.deref.result.now ++ drop n (drop place file)) ≡ file = (λ i. at.front tells i ++ (same i ++ drop n (drop place file))) ∙ all_bytes file place n in
+          ap (first_break e) (sym all)
+          ∙ faulted e bytes (take n c.deref.result.now) front c.args.edges.now.items c.read_piece.new.edges.items c.args.self.now.reader c.read_piece.new.reader c.in-Some.fault at.read reads (drop n (drop place file)),
+    )
 
 pub returns-in-None-clause-more : goal.returns-in-None-clause-more
 returns-in-None-clause-more g c = λ more e file bytes front is at.
@@ -29,8 +31,7 @@ returns-in-None-clause-more g c = λ more e file bytes front is at.
     let piece = take n c.read_front.new.piece.items in
     let given : take n c.deref.result.now ≡ piece = ap (take n) c.deref.ensures.value in
     let reads : ReadsPiece c.args.self.now.reader c.read_piece.new.reader c.args.edges.now.items c.read_piece.new.edges.items (take n c.deref.result.now) None = rw c.in-None.is at c.in_ok-fault.ensures.reads in
-    let size : length piece ≡ n = length-take-le n c.read_front.new.piece.items (c.in_ok-n.ensures.within.1) in
-    (
+    let size : length piece ≡ n = length-take-le n c.read_front.new.piece.items (c.in_ok-n.ensures.within.1) in (
       bytes ++ piece,
       record {
         read = fed e bytes piece front c.args.edges.now.items c.read_piece.new.edges.items c.args.self.now.reader c.read_piece.new.reader at.read
