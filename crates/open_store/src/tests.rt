@@ -38,22 +38,24 @@ fn finished(alloc: Global) -> Result<MemDisk, Fail> {
 }
 
 /// The store that is found there.
-fn found(alloc: Global, disk: &mut MemDisk, mode: OpenMode) -> Result<Store, Fail> {
+fn found(alloc: Global, disk: &mut MemDisk, mode: OpenMode) -> Option<Store> {
     match open(alloc, disk, mode) {
-        Ok(Opened::Found(store)) => Ok(store),
-        Ok(Opened::Blank) | Err(_) => Err(Fail),
+        Ok(Opened::Found(store)) => Some(store),
+        Ok(Opened::Blank) | Err(_) => None,
     }
 }
 
 #[test]
 fn a_finished_store_is_opened_and_its_partition_loaded(rt: HostRuntime) -> Result<(), Fail> {
     let mut disk = finished(rt.alloc())?;
-    let store = found(rt.alloc(), &mut disk, OpenMode::Look)?;
+    let Some(store) = found(rt.alloc(), &mut disk, OpenMode::Look) else {
+        panic!(rt; "no store");
+    };
     assert_eq!(rt; store.manifest().round, 2);
     assert_eq!(rt; store.intervals().len(), 1);
     assert!(rt; store.manifest().parts.as_slice().len() == 1);
     let Ok(part) = store.load(rt.alloc(), &mut disk, 0) else {
-        return Err(Fail);
+        panic!(rt; "no partition");
     };
     assert_eq!(rt; part.edges().len(), 3);
     assert!(rt; matches!(store.count_below(rt.alloc(), &mut disk, 0, 0, 2), Ok(1)));
@@ -65,7 +67,9 @@ fn a_finished_store_is_opened_and_its_partition_loaded(rt: HostRuntime) -> Resul
 fn a_byte_behind_the_last_row_is_refused_where_it_stands(rt: HostRuntime) -> Result<(), Fail> {
     let mut disk = finished(rt.alloc())?;
     disk.write_at(5, 78, &[0])?;
-    let store = found(rt.alloc(), &mut disk, OpenMode::Look)?;
+    let Some(store) = found(rt.alloc(), &mut disk, OpenMode::Look) else {
+        panic!(rt; "no store");
+    };
     assert!(rt; store.manifest().parts.as_slice().len() == 1);
     let refused = store.load(rt.alloc(), &mut disk, 0);
     assert!(rt;
@@ -84,10 +88,12 @@ fn a_byte_behind_the_last_row_is_refused_where_it_stands(rt: HostRuntime) -> Res
 #[test]
 fn a_partition_goes_to_the_least_free_file(rt: HostRuntime) -> Result<(), Fail> {
     let mut disk = finished(rt.alloc())?;
-    let store = found(rt.alloc(), &mut disk, OpenMode::Change)?;
+    let Some(store) = found(rt.alloc(), &mut disk, OpenMode::Change) else {
+        panic!(rt; "no store");
+    };
     assert!(rt; store.manifest().parts.as_slice().len() == 1);
     let Ok(part) = store.load(rt.alloc(), &mut disk, 0) else {
-        return Err(Fail);
+        panic!(rt; "no partition");
     };
     assert_eq!(rt; store.free_file(&[4]), 6);
     let file = store.free_file(&[]);
@@ -99,35 +105,39 @@ fn a_partition_goes_to_the_least_free_file(rt: HostRuntime) -> Result<(), Fail> 
     Ok(())
 }
 
-// Where a grammar differs first from that of the store.
-fn difference(alloc: Global, text: &[u8]) -> Result<Option<u64>, Fail> {
+/// How a text compares with the store's.
+#[derive(Clone, Copy, Debug, PartialEq, Eq)]
+enum Compared {
+    Same,
+    At(u64),
+    Failed,
+}
+
+// How a grammar compares with that of the store.
+fn comparison(alloc: Global, text: &[u8]) -> Result<Compared, Fail> {
     let mut disk = finished(alloc)?;
-    let store = found(alloc, &mut disk, OpenMode::Look)?;
+    let Some(store) = found(alloc, &mut disk, OpenMode::Look) else {
+        return Ok(Compared::Failed);
+    };
     let mut files = Vec::new(alloc);
     files.push(NamedBytes {
         name: String::from_str(alloc, "g")?,
         bytes: text.to_vec(alloc)?,
     })?;
     let mut inputs = MemInputs::new(files);
-    match same_input(
-        alloc,
-        &mut inputs,
-        "g",
-        &mut disk,
-        &store,
-        InputFile::Grammar,
-    ) {
-        Ok(()) => Ok(None),
-        Err(StoreFault::OtherInput { place, .. }) => Ok(Some(place)),
-        Err(_) => Err(Fail),
+    let file = InputFile::Grammar;
+    match same_input(alloc, &mut inputs, "g", &mut disk, &store, file) {
+        Ok(()) => Ok(Compared::Same),
+        Err(StoreFault::OtherInput { place, .. }) => Ok(Compared::At(place)),
+        Err(_) => Ok(Compared::Failed),
     }
 }
 
 #[test]
 fn a_text_differs_where_it_ends_or_goes_on(rt: HostRuntime) -> Result<(), Fail> {
-    assert_eq!(rt; difference(rt.alloc(), b"S a b\n")?, None);
-    assert_eq!(rt; difference(rt.alloc(), b"S a b\n\n")?, Some(6));
-    assert_eq!(rt; difference(rt.alloc(), b"S a")?, Some(3));
-    assert_eq!(rt; difference(rt.alloc(), b"S x b\n")?, Some(2));
+    assert_eq!(rt; comparison(rt.alloc(), b"S a b\n")?, Compared::Same);
+    assert_eq!(rt; comparison(rt.alloc(), b"S a b\n\n")?, Compared::At(6));
+    assert_eq!(rt; comparison(rt.alloc(), b"S a")?, Compared::At(3));
+    assert_eq!(rt; comparison(rt.alloc(), b"S x b\n")?, Compared::At(2));
     Ok(())
 }
