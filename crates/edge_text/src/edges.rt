@@ -1,14 +1,15 @@
 //! The edges of a file, which is read piece by piece.
-ghost use Rattle.std.specs.Prelude.{◌≡◌, ◌<◌, ◌≤◌, ◌^◌, ℕ, List, Some, IfOk, IfErr, length};
+ghost use Rattle.std.specs.Prelude.{◌≡◌, ◌<◌, ◌≤◌, ◌^◌, ℕ, List, Some, IfOk, IfErr, OnErr, [], true, length};
 ghost use Rattle.io_edge.specs.declared.kinds.InputKind.{InputKind as AKind};
 ghost use Rattle.io_edge.specs.Devices.{Rose};
 ghost use Rattle.graph_words.specs.Reach.{graph_with, IsGraph};
 ghost use Rattle.graph_words.specs.Text.{distinct};
 ghost use Rattle.edge_text.specs.EdgesText.{edges_fault, vertex_count_of, ReadsFile};
+ghost use Rattle.edge_text.specs.Feeding.{IsFed};
 
-use crate::feed::{end_text, feed_piece};
+use crate::feed::EdgeReader;
 use graph_words::{Edge, EdgeList};
-use io_edge::{Failed, InputKind, Inputs, LineCutter};
+use io_edge::{Failed, InputKind, Inputs};
 use label_table::LabelTable;
 use std::alloc::{AllocError, Global};
 
@@ -51,40 +52,31 @@ fn read_text<I: Inputs>(
     alloc: Global,
     inputs: &mut I,
     name: &str,
-    table: &mut LabelTable,
+    reader: &mut EdgeReader,
     piece: &mut [u8],
 ) -> Result<EdgeList, EdgesFault>
-    requires short { length table.old ≤ 1000 }
+    requires new { (reader.old.place ≡ 0) × (reader.old.is_open ≡ true) }
     requires some { 0 < length piece.old }
     requires small { length piece.old ≤ 65536 }
-    ensures edges { IfOk result (λ edges. (names : List (List ℕ)) → table.old ≡ distinct names
-        → ReadsFile names (I.told inputs.old name.now) edges table.new) }
+    ensures edges { IfOk result (λ edges. (names : List (List ℕ)) → IsFed names [] reader.old []
+        → ReadsFile names (I.told inputs.old name.now) edges reader.new.table) }
     ensures fault { IfErr result (λ e. (line : ℕ) (kind : AKind) (file : List ℕ) (names : List (List ℕ)) → e ≡ EdgesFault.Text line kind
-        → I.told inputs.old name.now ≡ Some file → table.old ≡ distinct names → edges_fault names file ≡ Some (record { line = line; kind = kind })) }
+        → I.told inputs.old name.now ≡ Some file → IsFed names [] reader.old [] → edges_fault names file ≡ Some (record { line = line; kind = kind })) }
     ensures failed { IfErr result (λ e. e ≡ EdgesFault.ReadFailed → Rose (I.faults inputs.old name.now) (I.faults inputs.new name.now)) }
     ensures kept { I.told inputs.new ≡ I.told inputs.old }
     ensures others { (other : List ℕ) → I.faults inputs.old other ≤ I.faults inputs.new other }
 {
-    let mut cutter = LineCutter::new(alloc)?;
     let mut edges = Vec::new(alloc);
-    let mut lines: u64 = 0;
     let mut place: u64 = 0;
     loop {
         let n = inputs.read(name, place, piece)?;
         if n == 0 {
             break;
         }
-        feed_piece(
-            alloc,
-            &mut cutter,
-            table,
-            &mut edges,
-            &mut lines,
-            &mut place,
-            &piece[..n],
-        )?;
+        reader.feed(alloc, &piece[..n], &mut edges)?;
+        place += n as u64;
     }
-    end_text(alloc, &mut cutter, table, &mut edges, lines, place)?;
+    reader.finish(alloc, &mut edges)?;
     Ok(EdgeList::from_vec(edges))
 }
 
@@ -92,7 +84,7 @@ fn read_text<I: Inputs>(
 ///
 /// Labels are numbered by the table, to which new names are added; the names that stand in it before count first.
 /// The file comes from outside and may hold any bytes: its first fault is answered with line and kind. After a fault
-/// the table may have more names than before.
+/// the table is as it was.
 pub fn read_edges<I: Inputs>(
     alloc: Global,
     inputs: &mut I,
@@ -107,9 +99,13 @@ pub fn read_edges<I: Inputs>(
     ensures failed { IfErr result (λ e. e ≡ EdgesFault.ReadFailed → Rose (I.faults inputs.old name.now) (I.faults inputs.new name.now)) }
     ensures kept { I.told inputs.new ≡ I.told inputs.old }
     ensures others { (other : List ℕ) → I.faults inputs.old other ≤ I.faults inputs.new other }
+    ensures unread { OnErr result (table.new ≡ table.old) }
 {
     let mut piece = Vec::from_elem(alloc, 0, PIECE_LEN)?;
-    read_text(alloc, inputs, name, table, &mut piece)
+    let mut reader = EdgeReader::new(alloc, table.copy()?)?;
+    let edges = read_text(alloc, inputs, name, &mut reader, &mut piece)?;
+    *table = reader.into_table();
+    Ok(edges)
 }
 
 /// How many vertices a graph with these edges has: one more than the greatest vertex on an edge, and 0 where there is none.

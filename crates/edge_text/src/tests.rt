@@ -65,3 +65,22 @@ fn an_edge_is_printed_as_one_line(rt: HostRuntime) {
     assert!(rt; print_edge(&mut sink, 12, 0, b"a").is_ok());
     assert_eq!(rt; sink.bytes(), b"12 0 a\n".as_slice());
 }
+
+// A line is cut between two pieces, and the edges of the first piece are gone when the second comes.
+#[test]
+fn edges_may_be_taken_away_between_pieces(rt: HostRuntime) -> Result<(), Fail> {
+    let alloc = rt.alloc();
+    let mut reader = EdgeReader::new(alloc, LabelTable::new(alloc))?;
+    let mut edges = Vec::new(alloc);
+    reader.feed(alloc, b"0 1 a\n1 ", &mut edges)?;
+    assert_eq!(rt; edges.len(), 1);
+    edges.clear();
+    reader.feed(alloc, b"2 b\n3 4 a", &mut edges)?;
+    assert_eq!(rt; edges.len(), 1);
+    reader.finish(alloc, &mut edges)?;
+    assert_eq!(rt; edges.len(), 2);
+    let last = edges[1];
+    assert!(rt; (last.src.0, last.label.0, last.dst.0) == (3, 0, 4));
+    assert_eq!(rt; reader.table().len(), 2);
+    Ok(())
+}

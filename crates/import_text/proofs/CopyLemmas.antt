@@ -1,0 +1,96 @@
+-- A file is copied piece by piece.
+use Rattle.std.proofs.Common.{◌≡◌, ◌≢◌, ℕ, ◌+◌, ◌-◌, ◌≤◌, List, [], ◌∷◌, ◌++◌, length, take, drop, replicate, refl, sym, ap, ◌∙◌, arith, subst, append-nil, Some}
+use Rattle.std.specs.Prelude.{Option}
+use Rattle.std.specs.List.{sum}
+use Rattle.std.proofs.lemmas.List.{take_all, drop_all}
+use Rattle.graph_words.specs.declared.types.Edge.{Edge}
+use Rattle.edge_text.specs.Feeding.{IsFed}
+use Rattle.edge_text.proofs.FeedLemmas.{IsReadTo, reads_start, reads_on}
+use Rattle.io_edge.specs.Devices.{Gives}
+use Rattle.disk_model.specs.Disk.{Contents, Sets, written}
+use Rattle.import_text.specs.Degrees.{AreDegrees}
+use Rattle.import_text.specs.Tally.{Tallied, TakesPiece, TakesEnd}
+use Rattle.io_edge.specs.declared.kinds.InputKind.{InputKind}
+use Rattle.edge_text.specs.declared.edges.EdgesFault.{EdgesFault}
+use Rattle.edge_text.specs.declared.edges.EdgesFault.TheVariants as edges
+use Rattle.import_text.specs.declared.fault.TextFault.TheVariants as faults
+use Rattle.import_text.specs.Copying.{CopiesBehind, HasCauseIn, copying_fault}
+use Rattle.import_text.proofs.DegreeLemmas.{AreDegrees-none, AreDegrees-then}
+
+-- bytes that are written at the end
+pub written_at_end : (file bytes : List ℕ) (at : ℕ) → length file ≡ at → written file at bytes ≡ file ++ bytes
+unfolding written
+written_at_end file [] at end = sym (append-nil file)
+written_at_end file (b ∷ bytes) at end =
+    let past : length file ≤ at + length (b ∷ bytes) = omega (arith, end) in
+    let whole : length file ≤ at = omega (arith, end) in
+    let zero : at - length file ≡ 0 = omega (arith, end) in
+    let none : replicate (at - length file) 0 ≡ [] = ap (λ n. replicate n 0) zero in
+    let front : take at (file ++ replicate (at - length file) 0) ≡ file = ap (λ l. take at (file ++ l)) none ∙ ap (take at) (append-nil file) ∙ take_all at file whole in
+    ap (λ (l : List ℕ). (l ++ b ∷ bytes) ++ drop (at + length (b ∷ bytes)) file) front
+    ∙ ap (λ (l : List ℕ). (file ++ b ∷ bytes) ++ l) (drop_all (at + length (b ∷ bytes)) file past)
+    ∙ append-nil (file ++ b ∷ bytes)
+
+-- a fault of the text is one that the reader found
+pub copying_text : (f : EdgesFault) (line : ℕ) (kind : InputKind) → copying_fault f ≡ faults.Text line kind → f ≡ edges.Text line kind
+copying_text edges.ReadFailed line kind is = absurd (cc)
+copying_text (edges.Text l k) line kind is = cc
+copying_text edges.NoMemory line kind is = absurd (cc)
+
+-- a reader that reads nothing itself leaves no cause open
+pub copying_cause : (f : EdgesFault) (reads reads' calls calls' : ℕ) → f ≢ edges.ReadFailed → HasCauseIn reads reads' calls calls' (copying_fault f)
+copying_cause edges.ReadFailed reads reads' calls calls' not_read = absurd (not_read refl)
+copying_cause (edges.Text l k) reads reads' calls calls' not_read = tt
+copying_cause edges.NoMemory reads reads' calls calls' not_read = tt
+
+-- the text so far is read and stored, and its edges so far are counted
+pub record IsCopying (P : List ℕ → Type 0) (tells : Type 0) (file : ℕ) (first now : Tallied) (old new : Contents) (text : List ℕ) (front : List Edge) : Type 0 where
+  pub read : IsReadTo P first.reader now.reader text front
+  pub stored : tells → Sets file text old new
+  pub degrees : AreDegrees front now.degrees
+  pub all : sum now.degrees ≤ now.reader.place
+  pub small : length now.degrees ≤ 16777216
+
+pub copying_start : (P : List ℕ → Type 0) (tells : Type 0) (file : ℕ) (t : Tallied) (old : Contents) → t.reader.place ≡ 0 → t.degrees ≡ [] → (tells → old file ≡ []) → IsCopying P tells file t t old old [] []
+copying_start P tells file t old start none empty =
+    record {
+      read = reads_start P t.reader [] start refl;
+      stored = λ h. record { here = empty h; others = λ f apart. refl };
+      degrees = subst (λ (d : List ℕ). AreDegrees [] d) (sym none) AreDegrees-none;
+      all = omega (arith, ap sum none);
+      small = omega (arith, ap length none);
+    }
+
+-- a text that is stored, and the bytes behind it
+stored_on : (file at : ℕ) (text bytes : List ℕ) (old mid new : Contents) → length text ≡ at → Sets file text old mid → Sets file (written (mid file) at bytes) mid new → Sets file (text ++ bytes) old new
+stored_on file at text bytes old mid new end before now =
+    record {
+      here = now.here ∙ ap (λ l. written l at bytes) before.here ∙ written_at_end text bytes at end;
+      others = λ f apart. now.others f apart ∙ before.others f apart;
+    }
+
+-- one piece more
+pub copying_on : (P : List ℕ → Type 0) (tells : Type 0) (file : ℕ) (first now after : Tallied) (old mid new : Contents) (text : List ℕ) (front : List Edge) (place n : ℕ) (buf : List ℕ) → now.reader.place ≡ place → ((f : List ℕ) → P f → Gives f place buf n)
+    → n ≤ length buf → IsCopying P tells file first now old mid text front → (tells → Sets file (written (mid file) place (take n buf)) mid new) → (t : TakesPiece (take n buf) now after) → IsCopying P tells file first after old new (text ++ take n buf) (front ++ t.added)
+copying_on P tells file first now after old mid new text front place n buf here gives few c stores t =
+    record {
+      read = reads_on P first.reader now.reader text place here buf n front gives c.read after.reader (front ++ t.added) few t.place (λ names f. t.fed names text front f);
+      stored = λ h. stored_on file place text (take n buf) old mid new (c.read.length_is ∙ here) (c.stored h) (stores h);
+      degrees = AreDegrees-then front t.added now.degrees after.degrees c.degrees t.counted;
+      all = omega (arith, c.all, t.counted.all, t.few, t.place);
+      small = t.small c.small;
+    }
+
+-- and the end
+pub copying_ends : (names : List (List ℕ)) (told : Option (List ℕ)) (tells : Type 0) (file : ℕ) (first now after : Tallied) (old new : Contents) (text : List ℕ) (front : List Edge) (len : ℕ) → now.reader.place ≡ len → IsCopying (λ f. told ≡ Some f) tells file first now old new text front
+    → ((f : List ℕ) → told ≡ Some f → text ≡ f) → TakesEnd now after → IsFed names [] first.reader [] → CopiesBehind names told tells file old new len after.degrees after.reader.table
+copying_ends names told tells file first now after old new text front len here c whole t fed =
+    record {
+      text = text;
+      edges = front ++ t.added;
+      reads = t.reads names text front (c.read.feeds names fed);
+      is_file = whole;
+      stored = c.stored;
+      len_is = sym here ∙ sym c.read.length_is;
+      degrees_are = AreDegrees-then front t.added now.degrees after.degrees c.degrees t.counted;
+    }

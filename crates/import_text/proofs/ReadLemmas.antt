@@ -1,0 +1,103 @@
+-- A copy is read piece by piece, and what its lines give is gathered.
+use Rattle.std.proofs.Common.{◌≡◌, ◌≢◌, inl, ℕ, ◌≤◌, List, [], ◌++◌, length, take, refl, ◌∙◌, arith, subst}
+use Rattle.graph_words.specs.declared.types.Edge.{Edge}
+use Rattle.normal_law.specs.Closure.{Normal}
+use Rattle.io_edge.specs.declared.kinds.InputKind.{InputKind}
+use Rattle.io_edge.specs.Devices.{Gives}
+use Rattle.edge_text.specs.declared.edges.EdgesFault.{EdgesFault}
+use Rattle.edge_text.specs.declared.edges.EdgesFault.TheVariants as edges
+use Rattle.edge_text.specs.Feeding.{IsFed}
+use Rattle.edge_text.proofs.FeedLemmas.{IsReadTo, reads_start, reads_on}
+use Rattle.disk_model.specs.Disk.{Contents, Reads}
+use Rattle.manifest_switch.specs.Looks.{OnlyLooks}
+use Rattle.import_text.specs.declared.fault.TextFault.TheVariants as faults
+use Rattle.import_text.specs.Given.{AddsJust, IsAboveIn}
+use Rattle.import_text.specs.Gathering.{Gathered, Gathers, GathersPiece, GathersEnd}
+use Rattle.import_text.specs.Reading.{reading_fault, GathersFile, HasCauseOn}
+use Rattle.import_text.proofs.DegreeLemmas.{vertex_count_of-append}
+use Rattle.import_text.proofs.GivenLemmas.{AddsJust-then, above_none, above_append}
+
+-- ---- looking at a disk
+module _ {D : Type 0} (seen : D → Contents) (may_leave : D → Contents → Type 0) (moment : D → ℕ) (left_since : D → ℕ → Contents → Type 0) where
+  pub looks_none : (old : D) → OnlyLooks seen may_leave moment left_since old old
+  looks_none old =
+      record {
+        same_seen = refl;
+        no_more = λ c h. h;
+        no_less = λ c h. h;
+        past = λ t c h. h;
+        time = record { later = omega arith; nothing_else = λ t c le h. inl h; keeps = λ t c le h. h };
+      }
+
+  pub looks_then : (old mid new : D) → OnlyLooks seen may_leave moment left_since old mid → OnlyLooks seen may_leave moment left_since mid new → OnlyLooks seen may_leave moment left_since old new
+  looks_then old mid new a b =
+      record {
+        same_seen = b.same_seen ∙ a.same_seen;
+        no_more = λ c h. a.no_more c (b.no_more c h);
+        no_less = λ c h. b.no_less c (a.no_less c h);
+        past = λ t c h. a.past t c (b.past t c h);
+        time = record {
+          later = omega (arith, a.time.later, b.time.later);
+          nothing_else = λ t c le h. inl (a.past t c (b.past t c h));
+          keeps = λ t c le h. b.time.keeps t c (omega (arith, le, a.time.later)) (a.time.keeps t c le h);
+        };
+      }
+
+-- what a read of a disk's file gives
+pub gives_from_reads : (file : List ℕ) (at : ℕ) (buf : List ℕ) (n : ℕ) → Reads file at buf n → Gives file at buf n
+gives_from_reads file at buf n r = record { within = omega (arith, r.count); bytes = r.bytes; some = λ room more. omega (arith, r.count, room, more) }
+
+-- ---- faults
+pub bad_text : (f : EdgesFault) → reading_fault f ≡ faults.BadCopy → (line : ℕ) × (kind : InputKind) × (f ≡ edges.Text line kind)
+bad_text edges.ReadFailed is = absurd (cc)
+bad_text (edges.Text line kind) is = (line, kind, refl)
+bad_text edges.NoMemory is = absurd (cc)
+
+pub reading_cause : (f : EdgesFault) (calls calls' : ℕ) → f ≢ edges.ReadFailed → HasCauseOn calls calls' (reading_fault f)
+reading_cause edges.ReadFailed calls calls' not_read = absurd (not_read refl)
+reading_cause (edges.Text line kind) calls calls' not_read = tt
+reading_cause edges.NoMemory calls calls' not_read = tt
+
+-- ---- gathering
+pub Gathers-none : (n : Normal) (a : Gathered) → Gathers n [] a a
+Gathers-none n a = record { lo = refl; hi = refl; given = above_none n a.lo a.hi a.given; vertices = omega arith }
+
+pub Gathers-then : (n : Normal) (xs ys : List Edge) (a b c : Gathered) → Gathers n xs a b → Gathers n ys b c → Gathers n (xs ++ ys) a c
+Gathers-then n xs ys a b c p q =
+    let here = subst (λ (hi : ℕ). AddsJust (IsAboveIn n a.lo hi ys) b.given c.given) p.hi (subst (λ (lo : ℕ). AddsJust (IsAboveIn n lo b.hi ys) b.given c.given) p.lo q.given) in
+    record {
+      lo = q.lo ∙ p.lo;
+      hi = q.hi ∙ p.hi;
+      given = AddsJust-then (IsAboveIn n a.lo a.hi xs) (IsAboveIn n a.lo a.hi ys) (IsAboveIn n a.lo a.hi (xs ++ ys)) a.given b.given c.given p.given here (above_append n a.lo a.hi xs ys);
+      vertices = omega (arith, p.vertices, q.vertices, vertex_count_of-append xs ys);
+    }
+
+-- the text so far is read, and what its lines that have ended give is gathered
+pub record IsGathering (n : Normal) (P : List ℕ → Type 0) (first now : Gathered) (text : List ℕ) (found : List Edge) : Type 0 where
+  pub read : IsReadTo P first.reader now.reader text found
+  pub gathers : Gathers n found first now
+
+pub gathering_start : (n : Normal) (P : List ℕ → Type 0) (g : Gathered) → g.reader.place ≡ 0 → IsGathering n P g g [] []
+gathering_start n P g start = record { read = reads_start P g.reader [] start refl; gathers = Gathers-none n g }
+
+-- one piece more
+pub gathering_on : (n : Normal) (P : List ℕ → Type 0) (first now after : Gathered) (text : List ℕ) (found : List Edge) (place k : ℕ) (buf : List ℕ) → now.reader.place ≡ place → ((f : List ℕ) → P f → Gives f place buf k) → k ≤ length buf → IsGathering n P first now text found
+    → (t : GathersPiece n (take k buf) now after) → IsGathering n P first after (text ++ take k buf) (found ++ t.found)
+gathering_on n P first now after text found place k buf here gives few c t =
+    record {
+      read = reads_on P first.reader now.reader text place here buf k found gives c.read after.reader (found ++ t.found) few t.place (λ names f. t.fed names text found f);
+      gathers = Gathers-then n found t.found first now after c.gathers t.gathers;
+    }
+
+-- and the end
+pub gathering_ends : (n : Normal) (names : List (List ℕ)) (tells : Type 0) (file : List ℕ) (first now after : Gathered) (text : List ℕ) (found : List Edge) (len : ℕ) → now.reader.place ≡ len → IsGathering n (λ f. tells × (f ≡ file)) first now text found
+    → ((f : List ℕ) → tells × (f ≡ file) → text ≡ f) → GathersEnd n now after → IsFed names [] first.reader [] → GathersFile n names tells file len first after
+gathering_ends n names tells file first now after text found len here c whole t fed =
+    record {
+      text = text;
+      found = found ++ t.found;
+      reads = t.reads names text found (c.read.feeds names fed);
+      is_file = λ h. whole file (h, refl);
+      len_is = c.read.length_is ∙ here;
+      gathers = Gathers-then n found t.found first now after c.gathers t.gathers;
+    }
