@@ -14,13 +14,14 @@ use Rattle.partition_file.specs.Spelling.{row_of}
 use Rattle.closing_machine.specs.Rounds.{IsCandidate, IsOrdered}
 use Rattle.closing_machine.proofs.Members.{either, All-from_members, Contains-filter, Contains-kept, passes}
 use Rattle.std.proofs.lemmas.Bool.Decides.{nat_tests}
-use Rattle.std.specs.Prelude.{nat_le}
+use Rattle.std.specs.Prelude.{nat_le, IsTrue, filter}
 use Rattle.row_table.specs.Loaded.{newer_edges}
 use Rattle.row_table.proofs.RowLemmas.{some_born}
 use Rattle.row_table.proofs.OrderLemmas.{place_in_part, part_at}
 use Rattle.row_table.proofs.SearchLemmas.{in_its_row, from_row, row_ordered}
 use Rattle.row_table.specs.declared.blocks.Block.{Block}
-use Rattle.row_table.specs.Joined.{Gives, JoinsTo, AddsJoins, AddsSecond, AddsFirst, AddsRows, AreSeconds, PartsLabels, Counts, GivesJoins, IsJoinOf, LabelsAscend}
+use Rattle.row_table.specs.Joined.{Gives, JoinsTo, AddsJoins, AddsSecond, AddsFirst, AddsRows, AreSeconds, PartsLabels, Counts, GivesJoins, HasLabels, IsJoinOf, LabelsAscend}
+use Rattle.row_table.specs.Sieve.{HasNumber, AddsNumber}
 
 -- some edge of the list ends at w
 abbrev pub EndsAt : List Born → Vertex → Type 0
@@ -207,10 +208,10 @@ some_more n first row labels i d before now after lt f h a w = (
       o,
 )
 
-pub some_all : (n : Normal) (first : LabelId) (row : List Born) (labels : List LabelId) (i : ℕ) (before after : List Block) → AreSeconds n first labels → length labels ≤ i → AddsSome n first row (take i labels) before after → AddsJoins n first row before after
+pub some_all : (n : Normal) (first : LabelId) (row : List Born) (labels : List LabelId) (i : ℕ) (before after : List Block) → AreSeconds n first row labels → length labels ≤ i → AddsSome n first row (take i labels) before after → AddsJoins n first row before after
 some_all n first row labels i before after are le f a w = (
   λ g. either (λ (o : Gives before a w). inl o) (λ (p : (c : Born) × Contains row c × Contains (take i labels) c.edge.label × Joins n first c.edge.label a × (c.edge.dst ≡ w)). inr (p.0, p.1, p.3, p.4)) ((f a w).0 g),
-  λ o. either (λ (g : Gives before a w). (f a w).1 (inl g)) (λ (p : JoinsTo n first row a w). (f a w).1 (inr (p.0, p.1, rw (take_all i labels le) (are p.0.edge.label a p.2), p.2, p.3))) o,
+  λ o. either (λ (g : Gives before a w). (f a w).1 (inl g)) (λ (p : JoinsTo n first row a w). (f a w).1 (inr (p.0, p.1, rw (take_all i labels le) (are p.0 a p.1 p.2), p.2, p.3))) o,
 )
 
 pub row_labels : (v : ℕ) (row : List Born) → IsOrdered row → All (λ b. b.edge.src.0 ≡ v) row → LabelsAscend row
@@ -289,17 +290,50 @@ firsts_both n every since xs ys edges before now after f h a w = (
 pub firsts_run : (n : Normal) (every : Bool) (since : ℕ) (firsts edges : List Born) (i j : ℕ) (before now after : List Block) → i ≤ j → AddsRows n every since (take i firsts) edges before now → AddsRows n every since (take (j - i) (drop i firsts)) edges now after → AddsRows n every since (take j firsts) edges before after
 firsts_run n every since firsts edges i j before now after le f h = subst (λ (r : List Born). AddsRows n every since r edges before after) (front_grows firsts i j le) (firsts_both n every since (take i firsts) (take (j - i) (drop i firsts)) edges before now after f h)
 
--- no label joins behind the label of the first edges
-pub firsts_idle : (n : Normal) (every : Bool) (since : ℕ) (firsts edges : List Born) (label : LabelId) (labels : List LabelId) (blocks : List Block) → All (λ b. b.edge.label ≡ label) firsts → AreSeconds n label labels → labels ≡ [] → AddsRows n every since firsts edges blocks blocks
+-- ---- the labels of second edges
+
+pub no_labels : (set : List Bool) → HasLabels [] set
+no_labels set c m = absurd (let l : m.0 < 0 = m.1 in omega arith)
+
+pub one_label_more : (edges : List Born) (i : ℕ) (d : Born) → i < length edges → (now after : List Bool) → HasLabels (take i edges) now → AddsNumber now after (get_or edges i d).edge.label.0 → HasLabels (take (i + 1) edges) after
+one_label_more edges i d lt now after h a c m =
+    either
+    (λ (f : Contains (take i edges) c). a.keeps c.edge.label.0 (h c f))
+    (λ (s : get_or edges i d ≡ c). subst (λ (b : Born). HasNumber after b.edge.label.0) s a.has)
+    (Contains-push_cases (take i edges) (get_or edges i d) c (rw (take_more edges i d lt) at m))
+
+pub same_truth : (a b : Bool) → IsTrue a ↔ IsTrue b → a ≡ b
+same_truth true b h = sym (h.0 refl)
+same_truth false true h = h.1 refl
+same_truth false false h = refl
+
+abbrev pub is_known : List Bool → LabelId → Bool
+is_known set l = get_or set l.0 false
+
+pub kept_known : (before after : List LabelId) (set : List Bool) → after ≡ filter (is_known set) before → (l : LabelId) → Contains before l → HasNumber set l.0 → Contains after l
+kept_known before after set e l m has = subst (λ (k : List LabelId). Contains k l) (sym e) (Contains-filter (is_known set) before l m has)
+
+pub all_seconds : (n : Normal) (first : LabelId) (edges : List Born) (labels : List LabelId) → ((c a : LabelId) → Joins n first c a → Contains labels c) → AreSeconds n first edges labels
+all_seconds n first edges labels all c a m j = all c.edge.label a j
+
+pub known_seconds : (n : Normal) (first : LabelId) (edges : List Born) (labels kept : List LabelId) (set : List Bool) → ((c a : LabelId) → Joins n first c a → Contains labels c) → HasLabels edges set → ((l : LabelId) → Contains labels l → HasNumber set l.0 → Contains kept l) → AreSeconds n first edges kept
+known_seconds n first edges labels kept set all has keeps c a m j = keeps c.edge.label (all c.edge.label a j) (has c m)
+
+-- what has all second labels of the edges has those of a row
+pub seconds_in_row : (n : Normal) (first : LabelId) (edges : List Born) (v : ℕ) (labels : List LabelId) → AreSeconds n first edges labels → AreSeconds n first (row_of v edges) labels
+seconds_in_row n first edges v labels are c a m j = are c a (from_row edges c v m).0 j
+
+-- no label of the edges joins behind the label of the first edges
+pub firsts_idle : (n : Normal) (every : Bool) (since : ℕ) (firsts edges : List Born) (label : LabelId) (labels : List LabelId) (blocks : List Block) → All (λ b. b.edge.label ≡ label) firsts → AreSeconds n label edges labels → labels ≡ [] → AddsRows n every since firsts edges blocks blocks
 firsts_idle n every since firsts edges label labels blocks all are nil a w = (
   λ g. inl g,
-  λ o. either (λ (g : Gives blocks a w). g) (λ (p : (b : Born) × Contains firsts b × Counts every since b × JoinsTo n b.edge.label (row_of b.edge.dst.0 edges) a w). absurd (never p.0 p.1 p.3.0 p.3.2)) o,
+  λ o. either (λ (g : Gives blocks a w). g) (λ (p : (b : Born) × Contains firsts b × Counts every since b × JoinsTo n b.edge.label (row_of b.edge.dst.0 edges) a w). absurd (never p.0 p.1 p.3.0 (from_row edges p.3.0 p.0.edge.dst.0 p.3.1).0 p.3.2)) o,
 )
   where
-    never : (b : Born) → Contains firsts b → (c : Born) → Joins n b.edge.label c.edge.label a → ⊥
-    never b m c j =
+    never : (b : Born) → Contains firsts b → (c : Born) → Contains edges c → Joins n b.edge.label c.edge.label a → ⊥
+    never b m c there j =
         let e : b.edge.label ≡ label = All-contains (λ (x : Born). x.edge.label ≡ label) firsts b all m in
-        let r : Contains [] c.edge.label = subst (λ (l : List LabelId). Contains l c.edge.label) nil (are c.edge.label a (subst (λ (l : LabelId). Joins n l c.edge.label a) e j)) in
+        let r : Contains [] c.edge.label = subst (λ (l : List LabelId). Contains l c.edge.label) nil (are c a there (subst (λ (l : LabelId). Joins n l c.edge.label a) e j)) in
         let l : r.0 < 0 = r.1 in
         omega arith
 

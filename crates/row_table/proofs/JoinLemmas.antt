@@ -24,7 +24,7 @@ use Rattle.closing_machine.proofs.Members.{either, All-from_members}
 use Rattle.row_table.specs.declared.blocks.Block.{Block}
 use Rattle.row_table.specs.declared.span.Span.{Span}
 use Rattle.row_table.specs.Loaded.{Loaded, IsLoaded, IsRow, IsBehind, LiesIn, LiesInHigh}
-use Rattle.row_table.specs.Sieve.{HasVertex, IsEmptySet}
+use Rattle.row_table.specs.Sieve.{HasNumber, IsEmptySet}
 use Rattle.row_table.specs.Joined.{Gives, GivesEnd, GivesJoins, IsJoinOf, HasEnd, MarksEnds, Sifts, LabelJoins, AppendsLabel, JoinsBelow, AppendsBelow, IsNextLabel, JoinsWhere, AppendsJoins, vertex}
 use Rattle.row_table.proofs.SearchLemmas.{row_has, from_row}
 
@@ -69,16 +69,16 @@ module _ (row : List Born) (u : Vertex) (blocks : List Block) (a : LabelId) (sou
 
   module _ (none marked after : List Bool) (found sorted : List ℕ) (empty : IsEmptySet none) (marks : MarksEnds (HasEnd row a) none marked) (sifts : Sifts (GivesEnd blocks a) marked after [] found) (same : IsPermutation found sorted) (up : IsSorted nat_cmp sorted) where
     once : IsDistinct eqb sorted
-    once = IsDistinct-IsPermutation eqb nat_eq_equiv.symm found sorted same (sifts.once (All-nil (HasVertex marked)) none_distinct).1
+    once = IsDistinct-IsPermutation eqb nat_eq_equiv.symm found sorted same (sifts.once (All-nil (HasNumber marked)) none_distinct).1
 
     rises : AllPairs (λ (x y : ℕ). x < y) sorted
     rises = AllPairs-from_increasing sorted (IsStrictlyIncreasing-from_distinct sorted (IsNonDecreasingBy-from_sort (λ (x : ℕ). x) sorted up) once)
 
-    was_found : (w : ℕ) → Contains sorted w → (HasVertex marked w → ⊥) × GivesEnd blocks a w
+    was_found : (w : ℕ) → Contains sorted w → (HasNumber marked w → ⊥) × GivesEnd blocks a w
     was_found w m =
         either
         (λ (n : Contains [] w). absurd (let l : n.0 < 0 = n.1 in omega arith))
-        (λ (p : (HasVertex marked w → ⊥) × GivesEnd blocks a w). p)
+        (λ (p : (HasNumber marked w → ⊥) × GivesEnd blocks a w). p)
         (sifts.only w (Contains-permutation sorted found w (IsPermutation-sym found sorted same) m))
 
     abbrev IsOne : Edge → Type 0
@@ -92,7 +92,7 @@ module _ (row : List Born) (u : Vertex) (blocks : List Block) (a : LabelId) (sou
     all_are : (w : Vertex) → Gives blocks a w → HasEdge row (edge u a w) ⊎ Contains (map (λ w. edge u a (vertex w)) sorted) (edge u a w)
     all_are w g =
         either
-        (λ (h : HasVertex marked w.0). either (λ (n : HasVertex none w.0). absurd (empty w.0 n)) (λ (e : HasEnd row a w.0). inl (has_edge w e)) (marks.only w.0 h))
+        (λ (h : HasNumber marked w.0). either (λ (n : HasNumber none w.0). absurd (empty w.0 n)) (λ (e : HasEnd row a w.0). inl (has_edge w e)) (marks.only w.0 h))
         (λ (m : Contains found w.0). inr (contains_map (λ (w : ℕ). edge u a (vertex w)) sorted w.0 (Contains-permutation found sorted w.0 same m)))
         (sifts.has w.0 g)
 

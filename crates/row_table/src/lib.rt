@@ -5,12 +5,12 @@ mod blocks;
 mod centre_joins;
 mod centres;
 mod merging;
+mod number_set;
 mod round;
 mod row_starts;
 mod rows;
 mod sieve;
 mod span;
-mod vertex_set;
 
 pub use rows::Rows;
 pub use span::Span;

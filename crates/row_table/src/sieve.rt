@@ -5,7 +5,7 @@ ghost use Rattle.row_table.specs.Joined.{AppendsLabel, AppendsBelow, BlockGives,
 
 use crate::blocks::{Block, run_end};
 use crate::row_starts::part;
-use crate::vertex_set::VertexSet;
+use crate::number_set::NumberSet;
 use graph_words::{Born, Edge, LabelId, Vertex};
 use std::alloc::{AllocError, Global};
 
@@ -13,11 +13,11 @@ use std::alloc::{AllocError, Global};
 const LABELS: u32 = 65_536;
 
 /// Puts the ends of the edges into the set.
-pub(crate) fn mark_run(run: &[Born], ends: &mut VertexSet) -> Result<(), AllocError>
+pub(crate) fn mark_run(run: &[Born], ends: &mut NumberSet) -> Result<(), AllocError>
     ensures { OnOk result (MarksEnds (EndsHere run.now) ends.old ends.new) }
 {
     for born in run {
-        ends.add(born.edge.dst)?;
+        ends.add(born.edge.dst.0)?;
     }
     Ok(())
 }
@@ -27,7 +27,7 @@ fn mark_if(
     run: &[Born],
     here: LabelId,
     label: LabelId,
-    ends: &mut VertexSet,
+    ends: &mut NumberSet,
 ) -> Result<(), AllocError>
     requires { All (λ b. b.edge.label ≡ here) run.now }
     ensures { OnOk result (MarksEnds (HasEnd run.now label) ends.old ends.new) }
@@ -40,7 +40,7 @@ fn mark_if(
 }
 
 /// Puts the ends of the row's edges with the label into the set.
-fn mark_ends(row: &[Born], label: LabelId, ends: &mut VertexSet) -> Result<(), AllocError>
+fn mark_ends(row: &[Born], label: LabelId, ends: &mut NumberSet) -> Result<(), AllocError>
     requires { LabelsAscend row.now }
     ensures { OnOk result (MarksEnds (HasEnd row.now label) ends.old ends.new) }
 {
@@ -55,7 +55,7 @@ fn mark_ends(row: &[Born], label: LabelId, ends: &mut VertexSet) -> Result<(), A
 }
 
 /// Puts the ends of the edges to those found, each that is not in the set yet.
-fn sift_run(run: &[Born], ends: &mut VertexSet, found: &mut Vec<u32>) -> Result<(), AllocError>
+fn sift_run(run: &[Born], ends: &mut NumberSet, found: &mut Vec<u32>) -> Result<(), AllocError>
     ensures { OnOk result (Sifts (EndsHere run.now) ends.old ends.new found.old.items found.new.items) }
 {
     for second in run {
@@ -65,10 +65,10 @@ fn sift_run(run: &[Born], ends: &mut VertexSet, found: &mut Vec<u32>) -> Result<
 }
 
 /// Puts an end to those found, unless it is in the set.
-fn sift_end(end: Vertex, ends: &mut VertexSet, found: &mut Vec<u32>) -> Result<(), AllocError>
+fn sift_end(end: Vertex, ends: &mut NumberSet, found: &mut Vec<u32>) -> Result<(), AllocError>
     ensures { OnOk result (Sifts (λ w. w ≡ end.0) ends.old ends.new found.old.items found.new.items) }
 {
-    let new = ends.add(end)?;
+    let new = ends.add(end.0)?;
     if !new {
         return Ok(());
     }
@@ -80,7 +80,7 @@ fn sift_end(end: Vertex, ends: &mut VertexSet, found: &mut Vec<u32>) -> Result<(
 fn sift_block(
     block: &Block<'_>,
     label: LabelId,
-    ends: &mut VertexSet,
+    ends: &mut NumberSet,
     found: &mut Vec<u32>,
 ) -> Result<(), AllocError>
     ensures { OnOk result (Sifts (BlockGives block.now label) ends.old ends.new found.old.items found.new.items) }
@@ -96,7 +96,7 @@ fn sift_block(
 fn sift_blocks(
     blocks: &[Block<'_>],
     label: LabelId,
-    ends: &mut VertexSet,
+    ends: &mut NumberSet,
     found: &mut Vec<u32>,
 ) -> Result<(), AllocError>
     ensures { OnOk result (Sifts (GivesEnd blocks.now label) ends.old ends.new found.old.items found.new.items) }
@@ -145,7 +145,7 @@ fn next_label(blocks: &[Block<'_>], from: u32) -> u32
 #[derive(Drop)]
 pub(crate) struct Sieve {
     /// The ends of the vertex's edges of one label, those that are there and those that are found.
-    ends: VertexSet,
+    ends: NumberSet,
     /// The ends that are found.
     found: Vec<u32>,
 }
@@ -153,7 +153,7 @@ pub(crate) struct Sieve {
 impl Sieve {
     pub(crate) fn new(alloc: Global) -> Self {
         Sieve {
-            ends: VertexSet::new(alloc),
+            ends: NumberSet::new(alloc),
             found: Vec::new(alloc),
         }
     }

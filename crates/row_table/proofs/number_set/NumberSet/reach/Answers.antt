@@ -1,6 +1,6 @@
 use Rattle.std.proofs.Common.{rules}
 use Rattle.row_table.proofs.SetLemmas.{longer_same}
-use Rattle.row_table.proofs.vertex_set.VertexSet.reach.Goals as goal
+use Rattle.row_table.proofs.number_set.NumberSet.reach.Goals as goal
 
 pub returns-in_ok-resize-clause-same : goal.returns-in_ok-resize-clause-same
 returns-in_ok-resize-clause-same c =

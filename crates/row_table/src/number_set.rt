@@ -1,20 +1,19 @@
-//! Sets of vertices that are emptied at once.
+//! Sets of numbers, as of vertices or of labels, that are emptied at once.
 ghost use Rattle.std.specs.Prelude.{◌↔◌, ◌<◌, ℕ, length, IsTrue, IfOk, OnOk, MatchBool};
-ghost use Rattle.row_table.specs.Sieve.{HasVertex, IsEmptySet, AddsVertex};
+ghost use Rattle.row_table.specs.Sieve.{HasNumber, IsEmptySet, AddsNumber};
 
-use graph_words::Vertex;
 use std::alloc::{AllocError, Global};
 use std::marker::Model;
 
-/// A set of vertices. Each vertex up to the greatest that was ever added has the number of the turn in which it was last
-/// added, so that the set is emptied by one more turn.
+/// A set of numbers. Each number up to the greatest that was ever added has the turn in which it was last added, so that
+/// the set is emptied by one more turn.
 #[derive(Drop)]
-pub(crate) struct VertexSet {
+pub(crate) struct NumberSet {
     marks: Vec<u32>,
     turn: u32,
 }
 
-impl Model for VertexSet {
+impl Model for NumberSet {
     ghost use Rattle.std.specs.Prelude.{◌<◌, ◌≤◌, ◌==◌, Bool, List, All, map};
 
     ghost Value = { List Bool };
@@ -24,28 +23,28 @@ impl Model for VertexSet {
     ghost invariant = { λ s. (0 < s.turn) × All (λ m. m ≤ s.turn) s.marks.items };
 }
 
-impl VertexSet {
+impl NumberSet {
     /// The empty set. It takes no memory.
     pub(crate) fn new(alloc: Global) -> Self
         ensures { IsEmptySet result }
     {
-        VertexSet {
+        NumberSet {
             marks: Vec::new(alloc),
             turn: 1,
         }
     }
 
-    pub(crate) fn has(&self, vertex: Vertex) -> bool
-        ensures { IsTrue result ↔ HasVertex self.now vertex.0 }
+    pub(crate) fn has(&self, number: u32) -> bool
+        ensures { IsTrue result ↔ HasNumber self.now number }
     {
-        let at = vertex.0 as usize;
+        let at = number as usize;
         at < self.marks.len() && self.marks[at] == self.turn
     }
 
     /// Makes the table long enough to have a place.
     fn reach(&mut self, at: usize) -> Result<(), AllocError>
         ensures long { OnOk result (at < length self.new) }
-        ensures same { OnOk result ((v : ℕ) → HasVertex self.new v ↔ HasVertex self.old v) }
+        ensures same { OnOk result ((v : ℕ) → HasNumber self.new v ↔ HasNumber self.old v) }
     {
         if at >= self.marks.len() {
             self.marks.resize(at.saturating_add(1), 0)?;
@@ -53,13 +52,13 @@ impl VertexSet {
         Ok(())
     }
 
-    /// Adds a vertex whose place is there, and answers whether it was not there.
-    fn put(&mut self, vertex: Vertex) -> bool
-        requires { vertex.0 < length self.old }
-        ensures added { AddsVertex self.old self.new vertex.0 }
-        ensures new { MatchBool result (HasVertex self.old vertex.0 → ⊥) (HasVertex self.old vertex.0) }
+    /// Adds a number whose place is there, and answers whether it was not there.
+    fn put(&mut self, number: u32) -> bool
+        requires { number < length self.old }
+        ensures added { AddsNumber self.old self.new number }
+        ensures new { MatchBool result (HasNumber self.old number → ⊥) (HasNumber self.old number) }
     {
-        let at = vertex.0 as usize;
+        let at = number as usize;
         if self.marks[at] == self.turn {
             return false;
         }
@@ -67,13 +66,13 @@ impl VertexSet {
         true
     }
 
-    /// Adds a vertex, and answers whether it was not there.
-    pub(crate) fn add(&mut self, vertex: Vertex) -> Result<bool, AllocError>
-        ensures added { OnOk result (AddsVertex self.old self.new vertex.0) }
-        ensures new { IfOk result (λ new. MatchBool new (HasVertex self.old vertex.0 → ⊥) (HasVertex self.old vertex.0)) }
+    /// Adds a number, and answers whether it was not there.
+    pub(crate) fn add(&mut self, number: u32) -> Result<bool, AllocError>
+        ensures added { OnOk result (AddsNumber self.old self.new number) }
+        ensures new { IfOk result (λ new. MatchBool new (HasNumber self.old number → ⊥) (HasNumber self.old number)) }
     {
-        self.reach(vertex.0 as usize)?;
-        Ok(self.put(vertex))
+        self.reach(number as usize)?;
+        Ok(self.put(number))
     }
 
     /// Begins again at the first turn, with a new table.
@@ -84,7 +83,7 @@ impl VertexSet {
         self.turn = 1;
     }
 
-    /// Takes all vertices out, and keeps the memory.
+    /// Takes all numbers out, and keeps the memory.
     pub(crate) fn clear(&mut self)
         ensures { IsEmptySet self.new }
     {
