@@ -17,7 +17,7 @@ use Rattle.std.proofs.lemmas.Bool.Decides.{nat_tests}
 use Rattle.std.specs.Prelude.{nat_le, IsTrue, filter}
 use Rattle.row_table.specs.Loaded.{newer_edges}
 use Rattle.row_table.proofs.RowLemmas.{some_born}
-use Rattle.row_table.proofs.OrderLemmas.{place_in_part, part_at}
+use Rattle.row_table.proofs.OrderLemmas.{front_grows, place_in_part, part_at}
 use Rattle.row_table.proofs.SearchLemmas.{in_its_row, from_row, row_ordered}
 use Rattle.row_table.specs.declared.blocks.Block.{Block}
 use Rattle.row_table.specs.Joined.{Gives, JoinsTo, AddsJoins, AddsSecond, AddsFirst, AddsRows, AreSeconds, PartsLabels, Counts, GivesJoins, HasLabels, IsJoinOf, LabelsAscend}
@@ -105,12 +105,6 @@ joins_both n first xs ys before now after f h a w = (
       (Contains-append_cases xs ys p.0 p.1))
       o,
 )
-
-pub front_grows : {X : Type 0} (xs : List X) (i j : ℕ) → i ≤ j → take i xs ++ take (j - i) (drop i xs) ≡ take j xs
-front_grows xs i j le =
-    let e : i + (j - i) ≡ j = omega arith in
-    let back : drop i (take j xs) ≡ take (j - i) (drop i xs) = subst (λ (k : ℕ). drop i (take k xs) ≡ take (j - i) (drop i xs)) e (drop-take i (j - i) xs) in
-    ap (λ (l : List _). take i xs ++ l) (sym back) ∙ ap (λ (l : List _). l ++ drop i (take j xs)) (sym (take-take i j xs le)) ∙ take-append-drop i (take j xs)
 
 pub joins_more : (n : Normal) (first : LabelId) (row : List Born) (i j : ℕ) (before now after : List Block) → i ≤ j → AddsJoins n first (take i row) before now → AddsJoins n first (take (j - i) (drop i row)) now after → AddsJoins n first (take j row) before after
 joins_more n first row i j before now after le f h = subst (λ (r : List Born). AddsJoins n first r before after) (front_grows row i j le) (joins_both n first (take i row) (take (j - i) (drop i row)) before now after f h)

@@ -15,7 +15,8 @@ use Rattle.closing_machine.proofs.Members.{either}
 use Rattle.row_table.specs.declared.blocks.Block.{Block}
 use Rattle.row_table.specs.Sieve.{HasNumber, AddsNumber}
 use Rattle.row_table.specs.Joined.{BlockGives, EndsHere, GivesEnd, Gives, HasEnd, MarksEnds, Sifts, vertex}
-use Rattle.row_table.proofs.BlockLemmas.{EndsAt, front_grows, gives_push_to, gives_push_back}
+use Rattle.row_table.proofs.BlockLemmas.{EndsAt, gives_push_to, gives_push_back}
+use Rattle.row_table.proofs.OrderLemmas.{front_grows}
 
 -- ---- marks
 

@@ -4,10 +4,10 @@ ghost use Rattle.graph_words.specs.declared.types.Born.{Born as ABorn};
 ghost use Rattle.row_table.specs.Loaded.{AreCentres, IsCentre, LiesIn, LiesInHigh};
 ghost use Rattle.row_table.specs.Joined.{AppendsCentres, IsEndSet, vertex as vertex_of};
 
+use crate::number_set::NumberSet;
 use crate::rows::Rows;
 use crate::sieve::mark_run;
 use crate::span::Span;
-use crate::number_set::NumberSet;
 use graph_words::Vertex;
 use std::alloc::AllocError;
 

@@ -4,8 +4,8 @@ ghost use Rattle.graph_words.specs.Reach.{edge};
 ghost use Rattle.row_table.specs.Joined.{AppendsLabel, AppendsBelow, BlockGives, EndsHere, GivesEnd, HasEnd, IsNextLabel, LabelsAscend, MarksEnds, Sifts, vertex as vertex_of};
 
 use crate::blocks::{Block, run_end};
-use crate::row_starts::part;
 use crate::number_set::NumberSet;
+use crate::row_starts::part;
 use graph_words::{Born, Edge, LabelId, Vertex};
 use std::alloc::{AllocError, Global};
 
