@@ -206,8 +206,8 @@ module _ (edges : List Born) (IsOne : Edge → Type 0) (u : Vertex) (blocks : Li
 
 -- ---- vertex after vertex
 
-pub appends_none : (edges : List Born) (IsOne : Edge → Type 0) (P : ℕ → Type 0) (out : List Edge) → ((v : ℕ) → P v → ⊥) → AppendsJoins edges IsOne P out out
-appends_none edges IsOne P out none =
+pub appends_idle : (edges : List Born) (IsOne : Edge → Type 0) (P : ℕ → Type 0) (out : List Edge) → ((e : Edge) → IsOne e → P e.src.0 → ⊥) → AppendsJoins edges IsOne P out out
+appends_idle edges IsOne P out none =
     record {
       new = [];
       behind = sym (append-nil out);
@@ -215,10 +215,13 @@ appends_none edges IsOne P out none =
         joins = All-nil IsOne;
         sources = All-nil (λ (e : Edge). P e.src.0);
         absent = All-nil (λ (e : Edge). HasEdge edges e → ⊥);
-        complete = λ e c p. absurd (none e.src.0 p);
+        complete = λ e c p. absurd (none e c p);
         ascending = λ i j d lt end. absurd (omega arith);
       };
     }
+
+pub appends_none : (edges : List Born) (IsOne : Edge → Type 0) (P : ℕ → Type 0) (out : List Edge) → ((v : ℕ) → P v → ⊥) → AppendsJoins edges IsOne P out out
+appends_none edges IsOne P out none = appends_idle edges IsOne P out (λ e c p. none e.src.0 p)
 
 module _ (edges : List Born) (IsOne : Edge → Type 0) (P Q R : ℕ → Type 0) (to : (v : ℕ) → R v → P v ⊎ Q v) (back : (v : ℕ) → P v ⊎ Q v → R v) (before : (v w : ℕ) → P v → Q w → v < w) where
   joins_both : (xs ys : List Edge) → JoinsWhere edges IsOne P xs → JoinsWhere edges IsOne Q ys → JoinsWhere edges IsOne R (xs ++ ys)
@@ -279,11 +282,6 @@ pub all_joins_are_round : (n : Normal) (l : Loaded) (since : ℕ) (mid end : Lis
 all_joins_are_round n l since mid end h f g =
     let a = two_spans l (IsJoinOf n l.edges since) mid end h (λ e c. source_is_row n l since h c.0 e c.1) f g in
     record { joins = a.joins; absent = a.absent; complete = λ x e c. a.complete e (x, c); ascending = a.ascending }
-
-pub all_joins_at : (n : Normal) (l : Loaded) (since : ℕ) (x : Vertex) (mid end : List Edge) → IsLoaded l → AppendsJoins l.edges (IsCandidate n l.edges since x) (LiesIn l.low) [] mid → AppendsJoins l.edges (IsCandidate n l.edges since x) (LiesInHigh l.high) mid end → IsJoinsAt n l.edges since x end
-all_joins_at n l since x mid end h f g =
-    let a = two_spans l (IsCandidate n l.edges since x) mid end h (source_is_row n l since h x) f g in
-    record { joins = a.joins; absent = a.absent; complete = a.complete; ascending = a.ascending }
 
 pub vertex_appends : (edges : List Born) (IsOne : Edge → Type 0) (u : Vertex) (blocks passed : List Block) → passed ≡ blocks → GivesJoins IsOne u blocks → (before after : List Edge) → AppendsBelow (row_of u.0 edges) u passed 65536 before after → All (λ k. k.label.0 < 65536) passed → AppendsJoins edges IsOne (λ v. v ≡ u.0) before after
 vertex_appends edges IsOne u blocks passed same gives before after a few =

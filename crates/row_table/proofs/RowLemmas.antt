@@ -92,6 +92,14 @@ parts_end edges v n h le = record { front = h; behind = λ k d a b. absurd (omeg
 abbrev pub some_born : Born
 some_born = record { edge = record { src = record { 0 = 0 }; label = record { 0 = 0 }; dst = record { 0 = 0 } }; birth = 0 }
 
+-- sources do not fall
+pub sources_grow : (edges : List Born) → IsOrdered edges → (i j : ℕ) → i ≤ j → j < length edges → (get_or edges i some_born).edge.src.0 ≤ (get_or edges j some_born).edge.src.0
+sources_grow edges sorted i j le lt =
+    elim (cases_lt i j) [
+      | inl l ↦ source_grows _ _ (sorted i j some_born l lt)
+      | inr g ↦ (let e : i ≡ j = omega arith in subst (λ (k : ℕ). (get_or edges i some_born).edge.src.0 ≤ (get_or edges k some_born).edge.src.0) e (omega arith))
+    ]
+
 module _ (edges : List Born) (v p q : ℕ) (first : PartsAt edges v p) (second : PartsAt edges (v + 1) q) where
   pub in_order : p ≤ q
   in_order =

@@ -92,10 +92,6 @@ Through n since x row newer b a w = (b.edge.dst ≡ x) × (((since ≤ b.birth) 
 abbrev pub AddsThroughOne : Normal → ℕ → Vertex → List Born → List Born → Born → List Block → List Block → Type 0
 AddsThroughOne n since x row newer b before after = (a : LabelId) (w : Vertex) → Gives after a w ↔ (Gives before a w ⊎ Through n since x row newer b a w)
 
-abbrev pub AddsThrough : Normal → ℕ → Vertex → List Born → List Born → List Born → List Block → List Block → Type 0
-AddsThrough n since x row newer firsts before after = (a : LabelId) (w : Vertex)
-    → Gives after a w ↔ (Gives before a w ⊎ ((b : Born) × Contains firsts b × Through n since x row newer b a w))
-
 -- the blocks give just the joins of a sort from u
 abbrev pub GivesJoins : (Edge → Type 0) → Vertex → List Block → Type 0
 GivesJoins IsOne u blocks = (a : LabelId) (w : Vertex) → Gives blocks a w ↔ IsOne (edge u a w)

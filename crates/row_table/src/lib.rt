@@ -4,6 +4,7 @@
 mod blocks;
 mod centre_joins;
 mod centres;
+mod in_edges;
 mod merging;
 mod number_set;
 mod round;
@@ -12,6 +13,7 @@ mod rows;
 mod sieve;
 mod span;
 
+pub use in_edges::InEdges;
 pub use rows::Rows;
 pub use span::Span;
 
