@@ -1,8 +1,8 @@
 -- What blocks give.
-use Rattle.std.proofs.Common.{◌≡◌, ◌↔◌, ℕ, suc, ◌+◌, ◌-◌, ◌<◌, ◌≤◌, ◌⊎◌, ◌==◌, Bool, true, false, List, [], ◌∷◌, ◌++◌, length, get_or, take, drop, refl, sym, ap, subst, ◌∙◌, arith, inl, inr}
+use Rattle.std.proofs.Common.{◌≡◌, ◌≢◌, ◌↔◌, ℕ, suc, ◌+◌, ◌-◌, ◌<◌, ◌≤◌, ◌⊎◌, ◌==◌, Bool, true, false, List, [], ◌∷◌, ◌++◌, length, get_or, take, drop, refl, sym, ap, subst, ◌∙◌, arith, inl, inr}
 use Rattle.std.specs.Prelude.{All, Contains}
 use Rattle.std.proofs.lemmas.Bool.{cases_lt}
-use Rattle.std.proofs.lemmas.List.{length-take, length-drop, take_more, take_all, take-take, drop-take, take-append-drop, get_or_default}
+use Rattle.std.proofs.lemmas.List.{length-take, length-drop, take_more, take_all, get_or_default}
 use Rattle.std.proofs.lemmas.List.Elements.{All-contains, Contains-append_left, Contains-append_right, Contains-append_cases, Contains-push, Contains-push_cases}
 use Rattle.graph_words.specs.declared.types.Vertex.{Vertex}
 use Rattle.graph_words.specs.declared.types.LabelId.{LabelId}
@@ -165,6 +165,25 @@ module _ (row : List Born) (label : LabelId) (p q : ℕ) (first : PartsLabels ro
           let end : q ≤ length row = second.within in
           let len : k - p < length (take (q - p) (drop p row)) = (let a = length-take (q - p) (drop p row) in let c = length-drop p row in omega arith) in
           (k - p, len, part_at row p (q - p) (k - p) b len ∙ ap (λ (j : ℕ). get_or row j b) (let j : p + (k - p) ≡ k = omega arith in j) ∙ is)
+
+-- no edge of the row has the label, where the first one that could has another
+pub no_run : (row : List Born) (label : LabelId) (p : ℕ) → LabelsAscend row → PartsLabels row label.0 p → p ≡ length row ⊎ ((get_or row p some_born).edge.label.0 ≢ label.0) → (b : Born) → Contains [] b ↔ (Contains row b × (b.edge.label ≡ label))
+no_run row label p up parts other b = (λ m. absurd (let l : m.0 < 0 = m.1 in omega arith), λ m. absurd (never m.0.0 m.0.1 m.0.2 (ap (λ (l : LabelId). l.0) m.1)))
+  where
+    never : (k : ℕ) → k < length row → get_or row k b ≡ b → b.edge.label.0 ≡ label.0 → ⊥
+    never k lt is e =
+        let at : (get_or row k b).edge.label.0 ≡ label.0 = subst (λ (x : Born). x.edge.label.0 ≡ label.0) (sym is) e in
+        elim (cases_lt k p) [
+          | inl l ↦ (let h : (get_or row k b).edge.label.0 < label.0 = parts.before k b l in omega arith)
+          | inr g ↦ (
+              let low : label.0 ≤ (get_or row p b).edge.label.0 = parts.behind p b (omega arith) (omega arith) in
+              let grows : (get_or row p b).edge.label.0 ≤ (get_or row k b).edge.label.0 = elim (cases_lt p k) [ inl l ↦ up p k b l lt | inr le ↦ (let s : p ≡ k = omega arith in subst (λ (j : ℕ). (get_or row p b).edge.label.0 ≤ (get_or row j b).edge.label.0) s (omega arith)) ] in
+              let same : (get_or row p b).edge.label.0 ≡ label.0 = omega arith in
+              either
+              (λ (end : p ≡ length row). omega arith)
+              (λ (ne : (get_or row p some_born).edge.label.0 ≢ label.0). ne (ap (λ (x : Born). x.edge.label.0) (get_or_default row p some_born b (omega arith)) ∙ same))
+              other)
+        ]
 
 pub second_none : (n : Normal) (first : LabelId) (row : List Born) (label : LabelId) (blocks : List Block) (run : List Born) → ((b : Born) → Contains run b ↔ (Contains row b × (b.edge.label ≡ label))) → run ≡ [] → AddsSecond n first row label blocks blocks
 second_none n first row label blocks run has nil a w = (

@@ -5,7 +5,7 @@ use Rattle.std.proofs.lemmas.Bool.{cases_lt, cases_eq}
 use Rattle.std.proofs.lemmas.List.{length-set, length-replicate, get_or-set_same, get_or-set_other, get_or-replicate, get_or_default}
 use Rattle.std.proofs.Math.ListN.{set}
 use Rattle.graph_words.specs.declared.types.Born.{Born}
-use Rattle.row_table.specs.Chains.{AreChains, AreLinks, IsNext}
+use Rattle.row_table.specs.Chains.{AreChains, IsNext}
 use Rattle.row_table.proofs.RowLemmas.{some_born}
 
 -- no edge from the end on

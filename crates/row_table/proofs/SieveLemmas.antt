@@ -1,11 +1,11 @@
 -- Ends that are marked and sifted, one after the other.
-use Rattle.std.proofs.Common.{◌≡◌, ◌≢◌, ℕ, suc, ◌+◌, ◌-◌, ◌<◌, ◌≤◌, ◌⊎◌, Bool, true, false, eqb, MatchBool, List, [], ◌∷◌, ◌++◌, length, get_or, take, drop, refl, sym, ap, subst, ◌∙◌, arith, inl, inr}
+use Rattle.std.proofs.Common.{◌≡◌, ◌≢◌, ◌↔◌, ℕ, suc, ◌+◌, ◌<◌, ◌⊎◌, Bool, true, false, eqb, MatchBool, List, [], ◌∷◌, ◌++◌, length, get_or, take, refl, sym, ap, subst, ◌∙◌, arith, inl, inr}
 use Rattle.std.specs.Prelude.{All, Contains}
 use Rattle.std.specs.List.{list_any}
 use Rattle.std.proofs.lemmas.Bool.{cases_eq, false≢true}
 use Rattle.std.proofs.lemmas.Bool.Decides.{nat_tests}
 use Rattle.std.proofs.lemmas.List.{take_more}
-use Rattle.std.proofs.lemmas.List.Elements.{All-weaker, All-push, All-contains, Contains-append_left, Contains-append_right, Contains-append_cases, Contains-push, Contains-push_cases}
+use Rattle.std.proofs.lemmas.List.Elements.{All-weaker, All-push, Contains-append_left, Contains-push, Contains-push_cases}
 use Rattle.std.proofs.lemmas.Map.Keys.{IsDistinct-push}
 use Rattle.std.proofs.lemmas.Cmp.{nat_eq_equiv}
 use Rattle.graph_words.specs.declared.types.Vertex.{Vertex}
@@ -16,7 +16,6 @@ use Rattle.row_table.specs.declared.blocks.Block.{Block}
 use Rattle.row_table.specs.Sieve.{HasNumber, AddsNumber}
 use Rattle.row_table.specs.Joined.{BlockGives, EndsHere, GivesEnd, Gives, HasEnd, MarksEnds, Sifts, vertex}
 use Rattle.row_table.proofs.BlockLemmas.{EndsAt, gives_push_to, gives_push_back}
-use Rattle.row_table.proofs.OrderLemmas.{front_grows}
 
 -- ---- marks
 
@@ -155,28 +154,11 @@ module _ (blocks : List Block) (a : LabelId) (i : ℕ) (d : Block) (lt : i < len
   pub blocks_more : (before now after : List Bool) (start mid end : List ℕ) → Sifts (GivesEnd (take i blocks) a) before now start mid → Sifts (BlockGives (get_or blocks i d) a) now after mid end → Sifts (GivesEnd (take (i + 1) blocks) a) before after start end
   blocks_more before now after start mid end p q = sifts_both (GivesEnd (take i blocks) a) (BlockGives (get_or blocks i d) a) (GivesEnd (take (i + 1) blocks) a) blocks_to blocks_back before now after start mid end p q
 
--- ---- runs of a row
+-- ---- the run of a label
 
-pub run_is_it : (run : List Born) (here label : LabelId) (before after : List Bool) → All (λ b. b.edge.label ≡ here) run → here.0 ≡ label.0 → MarksEnds (EndsHere run) before after → MarksEnds (HasEnd run label) before after
-run_is_it run here label before after all e p =
-    marks_same (EndsHere run) (HasEnd run label) (λ w h. (h.0, h.1, h.3)) (λ w h. (h.0, h.1, All-contains (λ (b : Born). b.edge.label ≡ here) run h.0 all h.1 ∙ same here label e, h.2)) before after p
-  where
-    same : (x y : LabelId) → x.0 ≡ y.0 → x ≡ y
-    same x y e = let f : ℕ → LabelId = λ i. record { 0 = i } in ap f e
-
-pub run_is_not : (run : List Born) (here label : LabelId) (s : List Bool) → All (λ b. b.edge.label ≡ here) run → here.0 ≢ label.0 → MarksEnds (HasEnd run label) s s
-run_is_not run here label s all ne = marks_none (HasEnd run label) s (λ w h. ne (ap (λ (l : LabelId). l.0) (sym (All-contains (λ (b : Born). b.edge.label ≡ here) run h.0 all h.1) ∙ h.2)))
-
-marks_append : (xs ys : List Born) (label : LabelId) (before now after : List Bool) → MarksEnds (HasEnd xs label) before now → MarksEnds (HasEnd ys label) now after → MarksEnds (HasEnd (xs ++ ys) label) before after
-marks_append xs ys label before now after p q =
-    marks_both (HasEnd xs label) (HasEnd ys label) (HasEnd (xs ++ ys) label)
-    (λ w h. either (λ (m : Contains xs h.0). inl (h.0, m, h.2, h.3)) (λ (m : Contains ys h.0). inr (h.0, m, h.2, h.3)) (Contains-append_cases xs ys h.0 h.1))
-    (λ w o. either (λ (h : HasEnd xs label w). (h.0, Contains-append_left xs ys h.0 h.1, h.2, h.3)) (λ (h : HasEnd ys label w). (h.0, Contains-append_right xs ys h.0 h.1, h.2, h.3)) o)
-    before now after p q
-
-pub rows_more : (row : List Born) (label : LabelId) (i j : ℕ) (before now after : List Bool) → i ≤ j → MarksEnds (HasEnd (take i row) label) before now → MarksEnds (HasEnd (take (j - i) (drop i row)) label) now after → MarksEnds (HasEnd (take j row) label) before after
-rows_more row label i j before now after le p q =
-    subst (λ (r : List Born). MarksEnds (HasEnd r label) before after) (front_grows row i j le) (marks_append (take i row) (take (j - i) (drop i row)) label before now after p q)
+pub run_marks : (row run : List Born) (label : LabelId) (before after : List Bool) → ((b : Born) → Contains run b ↔ (Contains row b × (b.edge.label ≡ label))) → MarksEnds (EndsHere run) before after → MarksEnds (HasEnd row label) before after
+run_marks row run label before after are p =
+    marks_same (EndsHere run) (HasEnd row label) (λ w h. (h.0, (are h.0).1 (h.1, h.2), h.3)) (λ w h. let r = (are h.0).0 h.1 in (h.0, r.0, r.1, h.2)) before after p
 
 -- ---- a block of another label, and one of this label
 

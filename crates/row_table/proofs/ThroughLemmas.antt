@@ -1,5 +1,5 @@
 -- What joins through a centre.
-use Rattle.std.proofs.Common.{◌≡◌, ◌≢◌, ◌↔◌, ℕ, ◌+◌, ◌<◌, ◌≤◌, ◌⊎◌, List, [], ◌∷◌, length, get_or, take, sym, ap, subst, ◌∙◌, arith, inl, inr}
+use Rattle.std.proofs.Common.{◌≡◌, ◌↔◌, ℕ, ◌+◌, ◌<◌, ◌≤◌, ◌⊎◌, List, [], length, get_or, sym, ap, subst, ◌∙◌, arith, inl, inr}
 use Rattle.std.specs.Prelude.{Contains}
 use Rattle.std.proofs.lemmas.Bool.{cases_lt}
 use Rattle.std.proofs.lemmas.List.{get_or_default}
@@ -7,21 +7,19 @@ use Rattle.std.proofs.lemmas.List.Kept.{AllPairs-filter}
 use Rattle.graph_words.specs.declared.types.Vertex.{Vertex}
 use Rattle.graph_words.specs.declared.types.LabelId.{LabelId}
 use Rattle.graph_words.specs.declared.types.Born.{Born}
-use Rattle.graph_words.specs.declared.types.Edge.{Edge}
 use Rattle.graph_words.specs.Reach.{edge}
 use Rattle.normal_law.specs.Closure.{Normal}
 use Rattle.normal_law.specs.Closed.{Joins}
 use Rattle.partition_file.specs.Spelling.{row_of}
 use Rattle.closing_machine.specs.Rounds.{IsCandidate, IsOrdered}
-use Rattle.closing_machine.specs.JoinsAt.{IsJoinsAt}
 use Rattle.closing_machine.proofs.Members.{either}
 use Rattle.row_table.specs.declared.blocks.Block.{Block}
 use Rattle.row_table.specs.Loaded.{newer_edges}
-use Rattle.row_table.specs.Joined.{Gives, GivesJoins, JoinsTo, AddsJoins, AddsThroughOne, AppendsJoins, Through, LabelsAscend}
-use Rattle.row_table.specs.Chains.{AtSource, BeginsAt, BeginsBehind, IsNext, IsNextSource}
+use Rattle.row_table.specs.Joined.{Gives, GivesJoins, JoinsTo, AddsJoins, AddsThroughOne, Through, LabelsAscend}
+use Rattle.row_table.specs.Chains.{AtSource, BeginsAt, IsNext, IsNextSource}
 use Rattle.row_table.proofs.SearchLemmas.{from_row, in_its_row}
 use Rattle.row_table.proofs.BlockLemmas.{is_newer, newer_has}
-use Rattle.row_table.proofs.JoinLemmas.{appends_both, appends_idle, same_vertex}
+use Rattle.row_table.proofs.JoinLemmas.{same_vertex}
 use Rattle.row_table.proofs.RowLemmas.{some_born, sources_grow}
 
 pub newer_labels : (since : ℕ) (row : List Born) → LabelsAscend row → LabelsAscend (newer_edges since row)

@@ -131,6 +131,14 @@ pub record Sifts (given : ℕ → Type 0) (before after : List Bool) (found_befo
   pub only : (w : ℕ) → Contains found_after w → Contains found_before w ⊎ ((HasNumber before w → ⊥) × given w)
   pub once : All (HasNumber before) found_before → IsDistinct eqb found_before → All (HasNumber after) found_after × IsDistinct eqb found_after
 
+-- the edges of a label to those of the ends to which the row has none stand behind what was there
+pub record AppendsLacking (row : List Born) (u : Vertex) (a : LabelId) (ends : List ℕ) (before after : List Edge) : Type 0 where
+  pub new : List Edge
+  pub behind : after ≡ before ++ new
+  pub each : All (λ e. (e.src ≡ u) × (e.label ≡ a) × Contains ends e.dst.0 × (HasEdge row e → ⊥)) new
+  pub all : (w : ℕ) → Contains ends w → HasEdge row (edge u a (vertex w)) ⊎ Contains new (edge u a (vertex w))
+  pub ascending : AllPairs (λ v w. v < w) ends → IsAscending new
+
 -- what the blocks give for a label, less the row, in order
 pub record LabelJoins (row : List Born) (u : Vertex) (blocks : List Block) (a : LabelId) (new : List Edge) : Type 0 where
   pub each : All (λ e. (e.src ≡ u) × (e.label ≡ a) × Gives blocks a e.dst × (HasEdge row e → ⊥)) new

@@ -62,12 +62,18 @@ fn label_place(row: &[Born], from: u32) -> usize
 }
 
 /// The edges of a row that have the label.
-fn run_of(row: &[Born], label: LabelId) -> &[Born]
+pub(crate) fn run_of(row: &[Born], label: LabelId) -> &[Born]
     requires { LabelsAscend row.now }
     ensures { (b : ABorn) → Contains result.now b ↔ (Contains row.now b × (b.edge.label ≡ label)) }
 {
     let number = u32::from(label.0);
     let start = label_place(row, number);
+    if start == row.len() {
+        return &[];
+    }
+    if row[start].edge.label.0 != label.0 {
+        return &[];
+    }
     let end = label_place(row, number + 1);
     part(row, start, end)
 }

@@ -1,4 +1,3 @@
-use Rattle.std.proofs.Common.{◌≡◌}
 use Rattle.std.proofs.lemmas.List.{take_all}
 use Rattle.row_table.proofs.BlockLemmas.{no_labels, one_label_more}
 use Rattle.row_table.proofs.blocks.mark_labels.Goals as goal

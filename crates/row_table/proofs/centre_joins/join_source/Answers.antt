@@ -1,14 +1,12 @@
-use Rattle.std.proofs.Common.{◌≡◌}
 use Rattle.normal_law.specs.NormalForm.{normal_form}
 use Rattle.closing_machine.specs.Rounds.{IsCandidate}
-use Rattle.row_table.proofs.RowLemmas.{some_born}
-use Rattle.row_table.proofs.BlockLemmas.{row_labels_of}
+use Rattle.row_table.proofs.SearchLemmas.{row_ordered}
 use Rattle.row_table.proofs.JoinLemmas.{row_sources, vertex_appends}
 use Rattle.row_table.proofs.SourceLemmas.{appends_at, begins_here}
 use Rattle.row_table.proofs.centre_joins.join_source.Goals as goal
 
-pub join_row-requires-clause-labels : goal.join_row-requires-clause-labels
-join_row-requires-clause-labels c = rw c.row.ensures.row (row_labels_of _ c.args.centre.now.rows.now.edges c.row.ensures.loaded.ordered)
+pub join_row-requires-clause-order : goal.join_row-requires-clause-order
+join_row-requires-clause-order c = rw c.row.ensures.row (row_ordered _ c.args.centre.now.rows.now.edges c.row.ensures.loaded.ordered)
 
 pub join_row-requires-clause-source : goal.join_row-requires-clause-source
 join_row-requires-clause-source c = rw c.row.ensures.row (row_sources _ c.args.centre.now.rows.now.edges)

@@ -1,4 +1,4 @@
-use Rattle.std.proofs.Common.{◌≡◌, ◌<◌, ◌≤◌, [], length, arith}
+use Rattle.std.proofs.Common.{◌<◌, [], length}
 use Rattle.normal_law.specs.NormalForm.{normal_form}
 use Rattle.row_table.proofs.SourceLemmas.{at_first, at_next, sources_end, sources_more, sources_none}
 use Rattle.row_table.proofs.centre_joins.join_sources.Goals as goal

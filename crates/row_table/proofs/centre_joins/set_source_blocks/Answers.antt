@@ -1,4 +1,4 @@
-use Rattle.std.proofs.Common.{◌≡◌, ◌+◌, ◌<◌, ◌≤◌, ℕ, [], length, slice_index, slice_index_or, subst, arith, inl, inr}
+use Rattle.std.proofs.Common.{◌+◌, ◌<◌, ℕ, [], length, slice_index, subst, arith, inl, inr}
 use Rattle.normal_law.specs.NormalForm.{normal_form}
 use Rattle.row_table.specs.Chains.{IsNext}
 use Rattle.row_table.proofs.RowLemmas.{some_born}

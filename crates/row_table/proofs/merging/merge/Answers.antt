@@ -1,5 +1,4 @@
-use Rattle.std.proofs.Common.{rules, ◌≡◌, ◌+◌, ◌-◌, ◌<◌, ◌≤◌, ℕ, List, length, refl, sym, subst, take, arith}
-use Rattle.graph_words.specs.declared.types.Born.{Born}
+use Rattle.std.proofs.Common.{rules, ◌≡◌, ◌+◌, ◌-◌, ◌≤◌, ℕ, length, subst, arith}
 use Rattle.std.proofs.lemmas.List.{get_or_default}
 use Rattle.row_table.proofs.OrderLemmas.{part_ordered}
 use Rattle.row_table.proofs.MergeLemmas.{Filling, Filling-start, Filling-more, Filling-end, filling_room}

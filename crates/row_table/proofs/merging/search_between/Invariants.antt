@@ -1,6 +1,4 @@
-use Rattle.std.proofs.Common.{◌-◌, ◌<◌, ◌≤◌, ℕ, length, slice_index_or}
-use Rattle.graph_words.specs.declared.types.Born.{Born}
-use Rattle.graph_words.specs.Reach.{IsBefore}
+use Rattle.std.proofs.Common.{◌-◌, ◌≤◌, length}
 use Rattle.row_table.specs.Index.{NoneBefore, StandBefore}
 use Rattle.row_table.proofs.merging.search_between.Given as goal
 
