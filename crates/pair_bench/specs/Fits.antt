@@ -7,9 +7,3 @@ pub record FitsEdge (vertices : ℕ) (e : Edge) : Type 0 where
   pub source : e.src.0 < vertices
   pub label : e.label.0 < 63000
   pub destination : e.dst.0 < 16777216
-
--- the edge has a named label, and lies among so many vertices
-pub record IsNamedEdge (vertices : ℕ) (e : Edge) : Type 0 where
-  pub source : e.src.0 < vertices
-  pub label : e.label.0 < 1000
-  pub end : e.dst.0 < vertices

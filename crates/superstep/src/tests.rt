@@ -105,7 +105,11 @@ fn add(
 /// Whether the rows have just these edges.
 fn are_edges(rows: &Rows, edges: &[(u32, u16, u32)]) -> bool {
     rows.edges().len() == edges.len()
-        && rows.edges().iter().zip(edges).all(|(b, e)| b.edge == edge_of(*e))
+        && rows
+            .edges()
+            .iter()
+            .zip(edges)
+            .all(|(b, e)| b.edge == edge_of(*e))
 }
 
 /// How many edges have the birth.
@@ -171,7 +175,15 @@ fn a_loop_joins_with_itself(rt: HostRuntime) -> Result<(), Fail> {
     let edges = [(0, 1, 1), (1, 1, 1), (1, 1, 2)];
     let mut rows = rows_of(&rt, rt.alloc(), 1, 3, &edges)?;
     run_pair(rt.alloc(), &mut rows, &normal, 0, 1)?;
-    let all = [(0, 0, 1), (0, 0, 2), (0, 1, 1), (1, 0, 1), (1, 0, 2), (1, 1, 1), (1, 1, 2)];
+    let all = [
+        (0, 0, 1),
+        (0, 0, 2),
+        (0, 1, 1),
+        (1, 0, 1),
+        (1, 0, 2),
+        (1, 1, 1),
+        (1, 1, 2),
+    ];
     assert!(rt; are_edges(&rows, &all));
     assert_eq!(rt; born_at(&rows, 1), 4);
     Ok(())
