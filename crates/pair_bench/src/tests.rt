@@ -8,7 +8,7 @@ use crate::reading::opening;
 use graph_words::{Born, Edge, EdgeList, LabelId, Rule, Vertex, Word};
 use normal_form::{Grammar, Normal, is_grammar, normalise};
 use plain_closing::closure;
-use row_table::Rows;
+use row_table::{Rows, Sieve};
 use std::alloc::{AllocError, Global};
 use std::process::Abort;
 use std::test::Fail;
@@ -92,9 +92,10 @@ fn joins_by_centres(
 ) -> Result<Vec<Edge>, AllocError> {
     let index = rows.in_edges()?;
     let mut all = Vec::new(alloc);
+    let mut sieve = Sieve::new(alloc);
     let mut one = EdgeList::new(alloc);
     for centre in &rows.centres()? {
-        index.join_at(*centre, normal, since, &mut one)?;
+        index.join_at(*centre, normal, since, &mut sieve, &mut one)?;
         all.extend_from_slice(one.as_slice())?;
     }
     all.sort_unstable();

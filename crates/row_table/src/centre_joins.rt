@@ -135,7 +135,13 @@ fn join_sources<'a>(
 
 impl<'a> InEdges<'a> {
     /// The joins at a centre that the rows lack, in order.
-    fn joins_at(&self, vertex: Vertex, normal: &Normal, since: u64) -> Result<EdgeList, AllocError>
+    fn joins_at(
+        &self,
+        vertex: Vertex,
+        normal: &Normal,
+        since: u64,
+        sieve: &mut Sieve,
+    ) -> Result<EdgeList, AllocError>
         ensures { IfOk result (IsJoinsAt (normal_form normal.now) self.now.edges since vertex) }
     {
         let rows = self.rows();
@@ -151,26 +157,28 @@ impl<'a> InEdges<'a> {
             since,
             vertex,
         };
-        let mut sieve = Sieve::new(alloc);
         let mut out = Vec::new(alloc);
-        join_sources(&centre, self.first(vertex), &mut sieve, &mut out)?;
+        join_sources(&centre, self.first(vertex), sieve, &mut out)?;
         Ok(EdgeList::from_vec(out))
     }
 
     /// Sets `out` to the joins at a centre that the rows lack, in order: each edge that an edge into the centre and one
     /// out of it join to, of which one is born at or after `since`. After `AllocError` `out` is empty.
+    ///
+    /// Only the edges into the centre and those out of it are looked at, and for each join a few of its source's row.
     pub fn join_at(
         &self,
         centre: Vertex,
         normal: &Normal,
         since: u64,
+        sieve: &mut Sieve,
         out: &mut EdgeList,
     ) -> Result<(), AllocError>
         ensures ok { OnOk result (IsJoinsAt (normal_form normal.now) self.now.edges since centre out.new) }
         ensures err { OnErr result (out.new ≡ []) }
     {
         out.clear();
-        let joins = self.joins_at(centre, normal, since)?;
+        let joins = self.joins_at(centre, normal, since, sieve)?;
         *out = joins;
         Ok(())
     }
@@ -190,6 +198,8 @@ impl Rows {
     {
         out.clear();
         let index = self.in_edges()?;
-        index.join_at(centre, normal, since, out)
+        let mut sieve = Sieve::new(self.alloc());
+        index.join_at(centre, normal, since, &mut sieve, out)?;
+        Ok(())
     }
 }

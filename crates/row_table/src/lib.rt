@@ -15,6 +15,7 @@ mod span;
 
 pub use in_edges::InEdges;
 pub use rows::Rows;
+pub use sieve::Sieve;
 pub use span::Span;
 
 #[cfg(test)]

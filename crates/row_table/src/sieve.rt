@@ -158,9 +158,10 @@ fn next_label(blocks: &[Block<'_>], from: u32) -> u32
     next
 }
 
-/// What the search for the joins of one vertex needs, kept from one to the next.
+/// What a search for joins needs, kept from one source to the next, and from one centre to the next. It grows to a
+/// number for each vertex up to the greatest one that joins lead to.
 #[derive(Drop)]
-pub(crate) struct Sieve {
+pub struct Sieve {
     /// The ends of the vertex's edges of one label, those that are there and those that are found.
     ends: NumberSet,
     /// The ends that are found.
@@ -168,7 +169,8 @@ pub(crate) struct Sieve {
 }
 
 impl Sieve {
-    pub(crate) fn new(alloc: Global) -> Self {
+    /// An empty one. It takes no memory.
+    pub fn new(alloc: Global) -> Self {
         Sieve {
             ends: NumberSet::new(alloc),
             found: Vec::new(alloc),
