@@ -20,7 +20,8 @@ use Rattle.store_law.specs.Texts.{Texts, graph, normal}
 use Rattle.store_law.specs.Listed.{AreListed, part_file, part_of}
 use Rattle.store_law.specs.Left.{IsCopy, IsLeft, IsOfTexts, IsStore, IsStoreOf}
 use Rattle.store_law.specs.Imported.{IsFresh, IsImported}
-use Rattle.store_law.specs.Steps.{IsFree, OnlyFile}
+use Rattle.disk_files.specs.Files.{OnlyFile}
+use Rattle.store_law.specs.Steps.{IsFree}
 use Rattle.store_law.proofs.Named.{task_of_texts}
 
 pub fresh_holds : (t : Texts) (limit : ℕ) (c : Contents) (m : Manifest) (parts : List (List Born)) → IsFresh t limit c m parts → IsStoreOf t c m parts
@@ -104,7 +105,7 @@ module _ (t : Texts) (d c : Contents) (m : Manifest) (parts : List (List Born)) 
 
   pub free_file : (f : ℕ) → IsFree m f → OnlyFile f d c → IsStoreOf t d m parts → IsStoreOf t c m parts
   free_file f free only s =
-      same_files (only 2 (omega (arith, free.above))) (only 3 (omega (arith, free.above))) (λ i lt. only (part_file m i) (file_apart m f i lt free)) s
+      same_files (only.others 2 (omega (arith, free.above))) (only.others 3 (omega (arith, free.above))) (λ i lt. only.others (part_file m i) (file_apart m f i lt free)) s
 
 -- ---- a switch
 
@@ -131,7 +132,7 @@ switch_left t d seen c m parts left s (inr made) = inr (m, parts, made_store t s
 -- ---- a file that no manifest names
 
 pub same_current : (d c : Contents) (f : ℕ) → 2 ≤ f → OnlyFile f d c → current_of c ≡ current_of d
-same_current d c f high only = λ i. chosen (open_body (only 0 (omega (arith, high)) i)) (open_body (only 1 (omega (arith, high)) i))
+same_current d c f high only = λ i. chosen (open_body (only.others 0 (omega (arith, high)) i)) (open_body (only.others 1 (omega (arith, high)) i))
 
 pub free_blank : (d c : Contents) (f : ℕ) → 2 ≤ f → OnlyFile f d c → IsBlank d → IsBlank c
 free_blank d c f high only blank = still_blank d c (same_current d c f high only) blank

@@ -1,11 +1,6 @@
 -- Steps that stores survive.
-use Rattle.std.specs.Prelude.{◌≡◌, ◌≢◌, ℕ, ◌≤◌, All}
-use Rattle.disk_model.specs.Disk.{Contents}
+use Rattle.std.specs.Prelude.{◌≢◌, ℕ, ◌≤◌, All}
 use Rattle.manifest.specs.declared.types.Manifest.{Manifest}
-
--- all files but one are as before
-abbrev pub OnlyFile : ℕ → Contents → Contents → Type 0
-OnlyFile f old new = (g : ℕ) → g ≢ f → new g ≡ old g
 
 -- the file is neither a slot nor a copy of a text, and the manifest names it for no partition
 pub record IsFree (m : Manifest) (f : ℕ) : Type 0 where

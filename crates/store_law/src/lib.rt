@@ -17,7 +17,8 @@ ghost use Rattle.store_law.specs.Texts.{Texts};
 ghost use Rattle.store_law.specs.Listed.{AreExact, AreListed, ends_of};
 ghost use Rattle.store_law.specs.Left.{IsDone, IsLeft, IsStore, IsStoreOf};
 ghost use Rattle.store_law.specs.Imported.{IsFresh, IsImported};
-ghost use Rattle.store_law.specs.Steps.{IsFree, OnlyFile};
+ghost use Rattle.disk_files.specs.Files.{OnlyFile};
+ghost use Rattle.store_law.specs.Steps.{IsFree};
 
 /// The partitions that a manifest lists are partitions of its intervals, which cut the vertices.
 pub fn listed_are_partitions()
