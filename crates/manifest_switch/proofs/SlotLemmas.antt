@@ -282,10 +282,10 @@ pub keeps_opens : (s : Slot) (m : Manifest) (seen d x c : Contents) → body (x 
 keeps_opens s m seen d x c is synced k o = elim o.becomes [
   | inl same ↦ inl (record { same = same ∙ k.same; others = λ f p q. o.others f (apart_of s f p q) ∙ k.others f (apart_of s f p q) })
   | inr new ↦ inr (record {
-      slot = s;
-      current = new.2 ∙ ap (λ (r : Result Manifest ManifestFault). at_slot r) (sym new.1 ∙ is);
-      others = λ f p q. o.others f (apart_of s f p q) ∙ synced f (apart_of s f p q);
-    })
+    slot = s;
+    current = new.2 ∙ ap (λ (r : Result Manifest ManifestFault). at_slot r) (sym new.1 ∙ is);
+    others = λ f p q. o.others f (apart_of s f p q) ∙ synced f (apart_of s f p q);
+  })
 ]
   where
     at_slot : Result Manifest ManifestFault → Result Found OpenFault

@@ -4,7 +4,7 @@ use Rattle.std.specs.Prelude.{false, Some, Ok}
 use Rattle.disk_model.specs.Disk.{Contents, Sets, written}
 use Rattle.disk_model.specs.Sound.{written-below, written-lengths}
 use Rattle.manifest.specs.declared.types.Manifest.{Manifest}
-use Rattle.manifest_switch.specs.Slots.{file_of, other, is_open, open_body, body, current_of, next_generation, with_closed_gate, IsClosed, HasOnly}
+use Rattle.manifest_switch.specs.Slots.{file_of, other, is_open, open_body, body, chosen, current_of, next_generation, with_closed_gate, IsClosed, HasOnly}
 use Rattle.manifest_switch.specs.Steps.{MayClose, Keeps, Opens, Switches, Succeeds, IsReady, IsPlaced, IsSwitched}
 use Rattle.manifest_switch.specs.declared.slot.Slot.{Slot}
 use Rattle.manifest_switch.specs.declared.slot.Slot.TheVariants.{Zero, One}
@@ -61,6 +61,10 @@ module _ (s : Slot) (m : Manifest) (bytes : List ℕ) (says : Says bytes m) (d e
       }
 
 -- ---- the slot beside an open one is closed
+
+-- what is current is so in contents that are the same in each file
+pub current_alike : (d c : Contents) → ((f : ℕ) → c f ≡ d f) → current_of c ≡ current_of d
+current_alike d c just = λ i. chosen (open_body (just 0 i)) (open_body (just 1 i))
 
 closes : (t : Slot) (d c : Contents) → Sets (file_of t) (with_closed_gate (d (file_of t))) d c → is_open (c (file_of t)) ≡ false
 closes t d c shuts = ap is_open shuts.here ∙ closed-shut (with_closed_gate (d (file_of t))) (closed_gate (d (file_of t)))

@@ -1,8 +1,8 @@
 -- What blocks give.
-use Rattle.std.proofs.Common.{◌≡◌, ◌↔◌, ℕ, suc, ◌+◌, ◌-◌, ◌<◌, ◌≤◌, ◌⊎◌, ◌==◌, Bool, true, false, List, [], ◌∷◌, ◌++◌, length, get_or, take, drop, refl, sym, ap, subst, ◌∙◌, arith, inl, inr}
+use Rattle.std.proofs.Common.{◌≡◌, ◌≢◌, ◌↔◌, ℕ, suc, ◌+◌, ◌-◌, ◌<◌, ◌≤◌, ◌⊎◌, ◌==◌, Bool, true, false, List, [], ◌∷◌, ◌++◌, length, get_or, take, drop, refl, sym, ap, subst, ◌∙◌, arith, inl, inr}
 use Rattle.std.specs.Prelude.{All, Contains}
 use Rattle.std.proofs.lemmas.Bool.{cases_lt}
-use Rattle.std.proofs.lemmas.List.{length-take, length-drop, take_more, take_all, take-take, drop-take, take-append-drop, get_or_default}
+use Rattle.std.proofs.lemmas.List.{length-take, length-drop, take_more, take_all, get_or_default}
 use Rattle.std.proofs.lemmas.List.Elements.{All-contains, Contains-append_left, Contains-append_right, Contains-append_cases, Contains-push, Contains-push_cases}
 use Rattle.graph_words.specs.declared.types.Vertex.{Vertex}
 use Rattle.graph_words.specs.declared.types.LabelId.{LabelId}
@@ -14,13 +14,14 @@ use Rattle.partition_file.specs.Spelling.{row_of}
 use Rattle.closing_machine.specs.Rounds.{IsCandidate, IsOrdered}
 use Rattle.closing_machine.proofs.Members.{either, All-from_members, Contains-filter, Contains-kept, passes}
 use Rattle.std.proofs.lemmas.Bool.Decides.{nat_tests}
-use Rattle.std.specs.Prelude.{nat_le}
+use Rattle.std.specs.Prelude.{nat_le, IsTrue, filter}
 use Rattle.row_table.specs.Loaded.{newer_edges}
 use Rattle.row_table.proofs.RowLemmas.{some_born}
-use Rattle.row_table.proofs.OrderLemmas.{place_in_part, part_at}
+use Rattle.row_table.proofs.OrderLemmas.{front_grows, place_in_part, part_at}
 use Rattle.row_table.proofs.SearchLemmas.{in_its_row, from_row, row_ordered}
 use Rattle.row_table.specs.declared.blocks.Block.{Block}
-use Rattle.row_table.specs.Joined.{Gives, JoinsTo, AddsJoins, AddsSecond, AddsFirst, AddsRows, AreSeconds, PartsLabels, Counts, GivesJoins, IsJoinOf, LabelsAscend}
+use Rattle.row_table.specs.Joined.{Gives, JoinsTo, AddsJoins, AddsSecond, AddsFirst, AddsRows, AreSeconds, PartsLabels, Counts, GivesJoins, HasLabels, IsJoinOf, LabelsAscend}
+use Rattle.row_table.specs.Sieve.{HasNumber, AddsNumber}
 
 -- some edge of the list ends at w
 abbrev pub EndsAt : List Born → Vertex → Type 0
@@ -105,12 +106,6 @@ joins_both n first xs ys before now after f h a w = (
       o,
 )
 
-pub front_grows : {X : Type 0} (xs : List X) (i j : ℕ) → i ≤ j → take i xs ++ take (j - i) (drop i xs) ≡ take j xs
-front_grows xs i j le =
-    let e : i + (j - i) ≡ j = omega arith in
-    let back : drop i (take j xs) ≡ take (j - i) (drop i xs) = subst (λ (k : ℕ). drop i (take k xs) ≡ take (j - i) (drop i xs)) e (drop-take i (j - i) xs) in
-    ap (λ (l : List _). take i xs ++ l) (sym back) ∙ ap (λ (l : List _). l ++ drop i (take j xs)) (sym (take-take i j xs le)) ∙ take-append-drop i (take j xs)
-
 pub joins_more : (n : Normal) (first : LabelId) (row : List Born) (i j : ℕ) (before now after : List Block) → i ≤ j → AddsJoins n first (take i row) before now → AddsJoins n first (take (j - i) (drop i row)) now after → AddsJoins n first (take j row) before after
 joins_more n first row i j before now after le f h = subst (λ (r : List Born). AddsJoins n first r before after) (front_grows row i j le) (joins_both n first (take i row) (take (j - i) (drop i row)) before now after f h)
 
@@ -171,6 +166,25 @@ module _ (row : List Born) (label : LabelId) (p q : ℕ) (first : PartsLabels ro
           let len : k - p < length (take (q - p) (drop p row)) = (let a = length-take (q - p) (drop p row) in let c = length-drop p row in omega arith) in
           (k - p, len, part_at row p (q - p) (k - p) b len ∙ ap (λ (j : ℕ). get_or row j b) (let j : p + (k - p) ≡ k = omega arith in j) ∙ is)
 
+-- no edge of the row has the label, where the first one that could has another
+pub no_run : (row : List Born) (label : LabelId) (p : ℕ) → LabelsAscend row → PartsLabels row label.0 p → p ≡ length row ⊎ ((get_or row p some_born).edge.label.0 ≢ label.0) → (b : Born) → Contains [] b ↔ (Contains row b × (b.edge.label ≡ label))
+no_run row label p up parts other b = (λ m. absurd (let l : m.0 < 0 = m.1 in omega arith), λ m. absurd (never m.0.0 m.0.1 m.0.2 (ap (λ (l : LabelId). l.0) m.1)))
+  where
+    never : (k : ℕ) → k < length row → get_or row k b ≡ b → b.edge.label.0 ≡ label.0 → ⊥
+    never k lt is e =
+        let at : (get_or row k b).edge.label.0 ≡ label.0 = subst (λ (x : Born). x.edge.label.0 ≡ label.0) (sym is) e in
+        elim (cases_lt k p) [
+          | inl l ↦ (let h : (get_or row k b).edge.label.0 < label.0 = parts.before k b l in omega arith)
+          | inr g ↦ (
+              let low : label.0 ≤ (get_or row p b).edge.label.0 = parts.behind p b (omega arith) (omega arith) in
+              let grows : (get_or row p b).edge.label.0 ≤ (get_or row k b).edge.label.0 = elim (cases_lt p k) [ inl l ↦ up p k b l lt | inr le ↦ (let s : p ≡ k = omega arith in subst (λ (j : ℕ). (get_or row p b).edge.label.0 ≤ (get_or row j b).edge.label.0) s (omega arith)) ] in
+              let same : (get_or row p b).edge.label.0 ≡ label.0 = omega arith in
+              either
+              (λ (end : p ≡ length row). omega arith)
+              (λ (ne : (get_or row p some_born).edge.label.0 ≢ label.0). ne (ap (λ (x : Born). x.edge.label.0) (get_or_default row p some_born b (omega arith)) ∙ same))
+              other)
+        ]
+
 pub second_none : (n : Normal) (first : LabelId) (row : List Born) (label : LabelId) (blocks : List Block) (run : List Born) → ((b : Born) → Contains run b ↔ (Contains row b × (b.edge.label ≡ label))) → run ≡ [] → AddsSecond n first row label blocks blocks
 second_none n first row label blocks run has nil a w = (
   λ g. inl g,
@@ -207,10 +221,10 @@ some_more n first row labels i d before now after lt f h a w = (
       o,
 )
 
-pub some_all : (n : Normal) (first : LabelId) (row : List Born) (labels : List LabelId) (i : ℕ) (before after : List Block) → AreSeconds n first labels → length labels ≤ i → AddsSome n first row (take i labels) before after → AddsJoins n first row before after
+pub some_all : (n : Normal) (first : LabelId) (row : List Born) (labels : List LabelId) (i : ℕ) (before after : List Block) → AreSeconds n first row labels → length labels ≤ i → AddsSome n first row (take i labels) before after → AddsJoins n first row before after
 some_all n first row labels i before after are le f a w = (
   λ g. either (λ (o : Gives before a w). inl o) (λ (p : (c : Born) × Contains row c × Contains (take i labels) c.edge.label × Joins n first c.edge.label a × (c.edge.dst ≡ w)). inr (p.0, p.1, p.3, p.4)) ((f a w).0 g),
-  λ o. either (λ (g : Gives before a w). (f a w).1 (inl g)) (λ (p : JoinsTo n first row a w). (f a w).1 (inr (p.0, p.1, rw (take_all i labels le) (are p.0.edge.label a p.2), p.2, p.3))) o,
+  λ o. either (λ (g : Gives before a w). (f a w).1 (inl g)) (λ (p : JoinsTo n first row a w). (f a w).1 (inr (p.0, p.1, rw (take_all i labels le) (are p.0 a p.1 p.2), p.2, p.3))) o,
 )
 
 pub row_labels : (v : ℕ) (row : List Born) → IsOrdered row → All (λ b. b.edge.src.0 ≡ v) row → LabelsAscend row
@@ -289,17 +303,50 @@ firsts_both n every since xs ys edges before now after f h a w = (
 pub firsts_run : (n : Normal) (every : Bool) (since : ℕ) (firsts edges : List Born) (i j : ℕ) (before now after : List Block) → i ≤ j → AddsRows n every since (take i firsts) edges before now → AddsRows n every since (take (j - i) (drop i firsts)) edges now after → AddsRows n every since (take j firsts) edges before after
 firsts_run n every since firsts edges i j before now after le f h = subst (λ (r : List Born). AddsRows n every since r edges before after) (front_grows firsts i j le) (firsts_both n every since (take i firsts) (take (j - i) (drop i firsts)) edges before now after f h)
 
--- no label joins behind the label of the first edges
-pub firsts_idle : (n : Normal) (every : Bool) (since : ℕ) (firsts edges : List Born) (label : LabelId) (labels : List LabelId) (blocks : List Block) → All (λ b. b.edge.label ≡ label) firsts → AreSeconds n label labels → labels ≡ [] → AddsRows n every since firsts edges blocks blocks
+-- ---- the labels of second edges
+
+pub no_labels : (set : List Bool) → HasLabels [] set
+no_labels set c m = absurd (let l : m.0 < 0 = m.1 in omega arith)
+
+pub one_label_more : (edges : List Born) (i : ℕ) (d : Born) → i < length edges → (now after : List Bool) → HasLabels (take i edges) now → AddsNumber now after (get_or edges i d).edge.label.0 → HasLabels (take (i + 1) edges) after
+one_label_more edges i d lt now after h a c m =
+    either
+    (λ (f : Contains (take i edges) c). a.keeps c.edge.label.0 (h c f))
+    (λ (s : get_or edges i d ≡ c). subst (λ (b : Born). HasNumber after b.edge.label.0) s a.has)
+    (Contains-push_cases (take i edges) (get_or edges i d) c (rw (take_more edges i d lt) at m))
+
+pub same_truth : (a b : Bool) → IsTrue a ↔ IsTrue b → a ≡ b
+same_truth true b h = sym (h.0 refl)
+same_truth false true h = h.1 refl
+same_truth false false h = refl
+
+abbrev pub is_known : List Bool → LabelId → Bool
+is_known set l = get_or set l.0 false
+
+pub kept_known : (before after : List LabelId) (set : List Bool) → after ≡ filter (is_known set) before → (l : LabelId) → Contains before l → HasNumber set l.0 → Contains after l
+kept_known before after set e l m has = subst (λ (k : List LabelId). Contains k l) (sym e) (Contains-filter (is_known set) before l m has)
+
+pub all_seconds : (n : Normal) (first : LabelId) (edges : List Born) (labels : List LabelId) → ((c a : LabelId) → Joins n first c a → Contains labels c) → AreSeconds n first edges labels
+all_seconds n first edges labels all c a m j = all c.edge.label a j
+
+pub known_seconds : (n : Normal) (first : LabelId) (edges : List Born) (labels kept : List LabelId) (set : List Bool) → ((c a : LabelId) → Joins n first c a → Contains labels c) → HasLabels edges set → ((l : LabelId) → Contains labels l → HasNumber set l.0 → Contains kept l) → AreSeconds n first edges kept
+known_seconds n first edges labels kept set all has keeps c a m j = keeps c.edge.label (all c.edge.label a j) (has c m)
+
+-- what has all second labels of the edges has those of a row
+pub seconds_in_row : (n : Normal) (first : LabelId) (edges : List Born) (v : ℕ) (labels : List LabelId) → AreSeconds n first edges labels → AreSeconds n first (row_of v edges) labels
+seconds_in_row n first edges v labels are c a m j = are c a (from_row edges c v m).0 j
+
+-- no label of the edges joins behind the label of the first edges
+pub firsts_idle : (n : Normal) (every : Bool) (since : ℕ) (firsts edges : List Born) (label : LabelId) (labels : List LabelId) (blocks : List Block) → All (λ b. b.edge.label ≡ label) firsts → AreSeconds n label edges labels → labels ≡ [] → AddsRows n every since firsts edges blocks blocks
 firsts_idle n every since firsts edges label labels blocks all are nil a w = (
   λ g. inl g,
-  λ o. either (λ (g : Gives blocks a w). g) (λ (p : (b : Born) × Contains firsts b × Counts every since b × JoinsTo n b.edge.label (row_of b.edge.dst.0 edges) a w). absurd (never p.0 p.1 p.3.0 p.3.2)) o,
+  λ o. either (λ (g : Gives blocks a w). g) (λ (p : (b : Born) × Contains firsts b × Counts every since b × JoinsTo n b.edge.label (row_of b.edge.dst.0 edges) a w). absurd (never p.0 p.1 p.3.0 (from_row edges p.3.0 p.0.edge.dst.0 p.3.1).0 p.3.2)) o,
 )
   where
-    never : (b : Born) → Contains firsts b → (c : Born) → Joins n b.edge.label c.edge.label a → ⊥
-    never b m c j =
+    never : (b : Born) → Contains firsts b → (c : Born) → Contains edges c → Joins n b.edge.label c.edge.label a → ⊥
+    never b m c there j =
         let e : b.edge.label ≡ label = All-contains (λ (x : Born). x.edge.label ≡ label) firsts b all m in
-        let r : Contains [] c.edge.label = subst (λ (l : List LabelId). Contains l c.edge.label) nil (are c.edge.label a (subst (λ (l : LabelId). Joins n l c.edge.label a) e j)) in
+        let r : Contains [] c.edge.label = subst (λ (l : List LabelId). Contains l c.edge.label) nil (are c a there (subst (λ (l : LabelId). Joins n l c.edge.label a) e j)) in
         let l : r.0 < 0 = r.1 in
         omega arith
 

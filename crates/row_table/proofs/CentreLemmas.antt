@@ -10,24 +10,24 @@ use Rattle.graph_words.specs.declared.types.Born.{Born}
 use Rattle.closing_machine.proofs.Members.{either}
 use Rattle.partition_file.specs.Spelling.{row_of}
 use Rattle.row_table.specs.Loaded.{Loaded, IsLoaded, IsRow, IsCentre, AreCentres, LiesIn, LiesInHigh}
-use Rattle.row_table.specs.Sieve.{HasVertex, IsEmptySet}
+use Rattle.row_table.specs.Sieve.{HasNumber, IsEmptySet}
 use Rattle.row_table.specs.Joined.{AppendsCentres, IsEndSet, EndsHere, MarksEnds, vertex}
 use Rattle.row_table.proofs.SearchLemmas.{from_row, in_its_row}
 use Rattle.row_table.proofs.RowLemmas.{some_born}
 use Rattle.row_table.proofs.JoinLemmas.{pairs_append, same_vertex, spans_behind}
 
 pub is_end_set : (edges : List Born) (none ends : List Bool) → IsEmptySet none → MarksEnds (EndsHere edges) none ends → IsEndSet edges ends
-is_end_set edges none ends empty m w = (λ h. either (λ (x : HasVertex none w). absurd (empty w x)) (λ (x : EndsHere edges w). x) (m.only w h), m.has w)
+is_end_set edges none ends empty m w = (λ h. either (λ (x : HasNumber none w). absurd (empty w x)) (λ (x : EndsHere edges w). x) (m.only w h), m.has w)
 
 module _ (edges : List Born) (ends : List Bool) (v : ℕ) (is : IsEndSet edges ends) where
-  pub centre_is : HasVertex ends v → 0 < length (row_of v edges) → IsCentre edges (vertex v)
+  pub centre_is : HasNumber ends v → 0 < length (row_of v edges) → IsCentre edges (vertex v)
   centre_is h some =
       let e = (is v).0 h in
       let b : Born = get_or (row_of v edges) 0 some_born in
       let r = from_row edges b v (Contains-get_or (row_of v edges) 0 some_born some) in
       record { first = e.0; second = b; has_first = e.1; has_second = r.0; ends = same_vertex e.0.edge.dst (vertex v) e.2; begins = same_vertex b.edge.src (vertex v) r.1 }
 
-  pub centre_ends : (x : Born) → Contains edges x → x.edge.dst.0 ≡ v → HasVertex ends v
+  pub centre_ends : (x : Born) → Contains edges x → x.edge.dst.0 ≡ v → HasNumber ends v
   centre_ends x m e = (is v).1 (x, m, e)
 
   pub centre_row : (y : Born) → Contains edges y → y.edge.src.0 ≡ v → 0 < length (row_of v edges)

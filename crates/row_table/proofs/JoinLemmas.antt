@@ -1,12 +1,13 @@
 -- The joins of a vertex, label after label, and those of a round, vertex after vertex.
-use Rattle.std.proofs.Common.{◌≡◌, ℕ, suc, ◌+◌, ◌<◌, ◌≤◌, ◌⊎◌, Bool, eqb, Option, Some, None, List, [], ◌∷◌, ◌++◌, length, map, refl, sym, ap, subst, ◌∙◌, append_assoc, arith, inl, inr}
+use Rattle.std.proofs.Common.{◌≡◌, ℕ, suc, ◌+◌, ◌<◌, ◌≤◌, ◌⊎◌, Bool, eqb, Option, Some, None, List, [], ◌∷◌, ◌++◌, length, get_or, map, take, refl, sym, ap, subst, ◌∙◌, append_assoc, arith, inl, inr}
 use Rattle.std.specs.Prelude.{All, AllPairs, Contains}
 use Rattle.std.specs.List.{IsDistinct}
 use Rattle.std.specs.List.Sorted.{IsPermutation, IsSorted}
 use Rattle.std.specs.Ordering.{nat_cmp}
 use Rattle.std.proofs.lemmas.Bool.{cases_lt}
-use Rattle.std.proofs.lemmas.List.{length-map, get_or-map, append-nil}
-use Rattle.std.proofs.lemmas.List.Elements.{All-append, All-contains, All-weaker, All-map, All-nil, Contains-append_left, Contains-append_right}
+use Rattle.std.proofs.lemmas.List.{length-append, length-map, get_or-map, get_or_append_left, get_or_at, append-nil, take_more}
+use Rattle.std.proofs.lemmas.List.Quantifiers.{all_pairs_push}
+use Rattle.std.proofs.lemmas.List.Elements.{All-append, All-contains, All-weaker, All-map, All-nil, All-push, Contains-append_left, Contains-append_right, Contains-push, Contains-push_cases}
 use Rattle.std.proofs.lemmas.List.Sorted.{Contains-permutation, IsPermutation-sym, IsNonDecreasingBy-from_sort}
 use Rattle.std.proofs.lemmas.List.Kept.{AllPairs-cons, AllPairs-from_increasing}
 use Rattle.std.proofs.lemmas.Map.Keys.{IsDistinct-IsPermutation, IsStrictlyIncreasing-from_distinct}
@@ -19,13 +20,12 @@ use Rattle.graph_words.specs.Reach.{IsBefore, IsAscending, edge}
 use Rattle.normal_law.specs.Closure.{Normal}
 use Rattle.partition_file.specs.Spelling.{row_of}
 use Rattle.closing_machine.specs.Rounds.{IsCandidate, IsRound, HasEdge, born}
-use Rattle.closing_machine.specs.JoinsAt.{IsJoinsAt}
 use Rattle.closing_machine.proofs.Members.{either, All-from_members}
 use Rattle.row_table.specs.declared.blocks.Block.{Block}
 use Rattle.row_table.specs.declared.span.Span.{Span}
 use Rattle.row_table.specs.Loaded.{Loaded, IsLoaded, IsRow, IsBehind, LiesIn, LiesInHigh}
-use Rattle.row_table.specs.Sieve.{HasVertex, IsEmptySet}
-use Rattle.row_table.specs.Joined.{Gives, GivesEnd, GivesJoins, IsJoinOf, HasEnd, MarksEnds, Sifts, LabelJoins, AppendsLabel, JoinsBelow, AppendsBelow, IsNextLabel, JoinsWhere, AppendsJoins, vertex}
+use Rattle.row_table.specs.Sieve.{HasNumber, IsEmptySet}
+use Rattle.row_table.specs.Joined.{Gives, GivesEnd, GivesJoins, IsJoinOf, HasEnd, MarksEnds, Sifts, LabelJoins, AppendsLabel, AppendsLacking, JoinsBelow, AppendsBelow, IsNextLabel, JoinsWhere, AppendsJoins, vertex}
 use Rattle.row_table.proofs.SearchLemmas.{row_has, from_row}
 
 -- ---- lists
@@ -52,6 +52,21 @@ none_distinct = tt
 
 -- ---- one label
 
+-- the ends that are found, each once, in order
+module _ (blocks : List Block) (a : LabelId) (marked after : List Bool) (found sorted : List ℕ) (sifts : Sifts (GivesEnd blocks a) marked after [] found) (same : IsPermutation found sorted) where
+  rises : IsSorted nat_cmp sorted → AllPairs (λ (x y : ℕ). x < y) sorted
+  rises up = AllPairs-from_increasing sorted (IsStrictlyIncreasing-from_distinct sorted (IsNonDecreasingBy-from_sort (λ (x : ℕ). x) sorted up) once)
+    where
+      once : IsDistinct eqb sorted
+      once = IsDistinct-IsPermutation eqb nat_eq_equiv.symm found sorted same (sifts.once (All-nil (HasNumber marked)) none_distinct).1
+
+  was_found : (w : ℕ) → Contains sorted w → (HasNumber marked w → ⊥) × GivesEnd blocks a w
+  was_found w m =
+      either
+      (λ (n : Contains [] w). absurd (let l : n.0 < 0 = n.1 in omega arith))
+      (λ (p : (HasNumber marked w → ⊥) × GivesEnd blocks a w). p)
+      (sifts.only w (Contains-permutation sorted found w (IsPermutation-sym found sorted same) m))
+
 module _ (row : List Born) (u : Vertex) (blocks : List Block) (a : LabelId) (source : All (λ b. b.edge.src ≡ u) row) where
   edge_to : ℕ → Edge
   edge_to w = edge u a (vertex w)
@@ -68,31 +83,18 @@ module _ (row : List Born) (u : Vertex) (blocks : List Block) (a : LabelId) (sou
       (h.0.birth, subst (λ (b : Born). Contains row b) e h.1)
 
   module _ (none marked after : List Bool) (found sorted : List ℕ) (empty : IsEmptySet none) (marks : MarksEnds (HasEnd row a) none marked) (sifts : Sifts (GivesEnd blocks a) marked after [] found) (same : IsPermutation found sorted) (up : IsSorted nat_cmp sorted) where
-    once : IsDistinct eqb sorted
-    once = IsDistinct-IsPermutation eqb nat_eq_equiv.symm found sorted same (sifts.once (All-nil (HasVertex marked)) none_distinct).1
-
-    rises : AllPairs (λ (x y : ℕ). x < y) sorted
-    rises = AllPairs-from_increasing sorted (IsStrictlyIncreasing-from_distinct sorted (IsNonDecreasingBy-from_sort (λ (x : ℕ). x) sorted up) once)
-
-    was_found : (w : ℕ) → Contains sorted w → (HasVertex marked w → ⊥) × GivesEnd blocks a w
-    was_found w m =
-        either
-        (λ (n : Contains [] w). absurd (let l : n.0 < 0 = n.1 in omega arith))
-        (λ (p : (HasVertex marked w → ⊥) × GivesEnd blocks a w). p)
-        (sifts.only w (Contains-permutation sorted found w (IsPermutation-sym found sorted same) m))
-
     abbrev IsOne : Edge → Type 0
     IsOne e = (e.src ≡ u) × (e.label ≡ a) × Gives blocks a e.dst × (HasEdge row e → ⊥)
 
     each_is : All IsOne (map (λ w. edge u a (vertex w)) sorted)
     each_is =
         All-map IsOne (λ (w : ℕ). edge u a (vertex w)) sorted
-        (All-from_members (λ (w : ℕ). IsOne (edge u a (vertex w))) sorted (λ w m. let f = was_found w m in (refl, refl, f.1, λ h. f.0 (marks.has w (has_end w h)))))
+        (All-from_members (λ (w : ℕ). IsOne (edge u a (vertex w))) sorted (λ w m. let f = was_found blocks a marked after found sorted sifts same w m in (refl, refl, f.1, λ h. f.0 (marks.has w (has_end w h)))))
 
     all_are : (w : Vertex) → Gives blocks a w → HasEdge row (edge u a w) ⊎ Contains (map (λ w. edge u a (vertex w)) sorted) (edge u a w)
     all_are w g =
         either
-        (λ (h : HasVertex marked w.0). either (λ (n : HasVertex none w.0). absurd (empty w.0 n)) (λ (e : HasEnd row a w.0). inl (has_edge w e)) (marks.only w.0 h))
+        (λ (h : HasNumber marked w.0). either (λ (n : HasNumber none w.0). absurd (empty w.0 n)) (λ (e : HasEnd row a w.0). inl (has_edge w e)) (marks.only w.0 h))
         (λ (m : Contains found w.0). inr (contains_map (λ (w : ℕ). edge u a (vertex w)) sorted w.0 (Contains-permutation found sorted w.0 same m)))
         (sifts.has w.0 g)
 
@@ -101,10 +103,91 @@ module _ (row : List Born) (u : Vertex) (blocks : List Block) (a : LabelId) (sou
         let l : length (map (λ (w : ℕ). edge u a (vertex w)) sorted) ≡ length sorted = length-map sorted (λ (w : ℕ). edge u a (vertex w)) in
         let x = get_or-map (λ (w : ℕ). edge u a (vertex w)) sorted i 0 d (omega arith) in
         let y = get_or-map (λ (w : ℕ). edge u a (vertex w)) sorted j 0 d (omega arith) in
-        rw (x, y) (inr (refl, inr (refl, rises i j 0 lt (omega arith))))
+        rw (x, y) (inr (refl, inr (refl, rises blocks a marked after found sorted sifts same up i j 0 lt (omega arith))))
 
     pub label_joins : LabelJoins row u blocks a (map (λ w. edge u a (vertex w)) sorted)
     label_joins = record { each = each_is; all = all_are; ascending = ascends }
+
+-- each of them was looked for in the row
+pub searched_joins : (row : List Born) (u : Vertex) (blocks : List Block) (a : LabelId) (none after : List Bool) (found sorted : List ℕ) → IsEmptySet none → Sifts (GivesEnd blocks a) none after [] found → IsPermutation found sorted → IsSorted nat_cmp sorted → (before out : List Edge) → AppendsLacking row u a sorted before out → AppendsLabel row u blocks a before out
+searched_joins row u blocks a none after found sorted empty sifts same up before out l =
+    record {
+      new = l.new;
+      behind = l.behind;
+      are = record {
+        each = All-weaker (λ (e : Edge). (e.src ≡ u) × (e.label ≡ a) × Contains sorted e.dst.0 × (HasEdge row e → ⊥)) (λ (e : Edge). (e.src ≡ u) × (e.label ≡ a) × Gives blocks a e.dst × (HasEdge row e → ⊥)) (λ e h. (h.0, h.1, (was_found blocks a none after found sorted sifts same e.dst.0 h.2).1, h.3)) l.new l.each;
+        all = λ w g. either (λ (n : HasNumber none w.0). absurd (empty w.0 n)) (λ (m : Contains found w.0). l.all w.0 (Contains-permutation found sorted w.0 same m)) (sifts.has w.0 g);
+        ascending = l.ascending (rises blocks a none after found sorted sifts same up);
+      };
+    }
+
+module _ (row : List Born) (u : Vertex) (a : LabelId) where
+  pub lacking_none : (out : List Edge) → AppendsLacking row u a [] out out
+  lacking_none out =
+      record {
+        new = [];
+        behind = sym (append-nil out);
+        each = All-nil (λ (e : Edge). (e.src ≡ u) × (e.label ≡ a) × Contains [] e.dst.0 × (HasEdge row e → ⊥));
+        all = λ w m. absurd (let l : m.0 < 0 = m.1 in omega arith);
+        ascending = λ up i j d lt end. absurd (omega arith);
+      }
+
+  module _ (ends : List ℕ) (i : ℕ) (d : ℕ) (lt : i < length ends) (before now : List Edge) (l : AppendsLacking row u a (take i ends) before now) where
+    abbrev w : ℕ
+    w = get_or ends i d
+
+    abbrev longer : List ℕ
+    longer = take i ends ++ w ∷ []
+
+    each_longer : All (λ e. (e.src ≡ u) × (e.label ≡ a) × Contains longer e.dst.0 × (HasEdge row e → ⊥)) l.new
+    each_longer = All-weaker (λ (e : Edge). (e.src ≡ u) × (e.label ≡ a) × Contains (take i ends) e.dst.0 × (HasEdge row e → ⊥)) (λ (e : Edge). (e.src ≡ u) × (e.label ≡ a) × Contains longer e.dst.0 × (HasEdge row e → ⊥)) (λ e h. (h.0, h.1, Contains-append_left (take i ends) (w ∷ []) e.dst.0 h.2, h.3)) l.new l.each
+
+    front_up : AllPairs (λ (x y : ℕ). x < y) longer → AllPairs (λ (x y : ℕ). x < y) (take i ends)
+    front_up up j k f less end =
+        let a : length longer ≡ length (take i ends) + 1 = length-append (take i ends) (w ∷ []) in
+        rw (sym (get_or_append_left (take i ends) (w ∷ []) f j (omega arith)), sym (get_or_append_left (take i ends) (w ∷ []) f k end)) (up j k f less (omega arith))
+
+    below_last : AllPairs (λ (x y : ℕ). x < y) longer → (v : ℕ) → Contains (take i ends) v → v < w
+    below_last up v m =
+        let a : length longer ≡ length (take i ends) + 1 = length-append (take i ends) (w ∷ []) in
+        let h = up m.0 (length (take i ends)) v m.1 (omega arith) in
+        let x : get_or longer m.0 v ≡ v = get_or_append_left (take i ends) (w ∷ []) v m.0 m.1 ∙ m.2 in
+        let y : get_or longer (length (take i ends)) v ≡ w = get_or_at (take i ends) w [] v (length (take i ends)) refl in
+        rw (x, y) at h
+
+    pub lacking_skip : HasEdge row (edge u a (vertex w)) → AppendsLacking row u a (take (i + 1) ends) before now
+    lacking_skip has =
+        rw (take_more ends i d lt) (record {
+          new = l.new;
+          behind = l.behind;
+          each = each_longer;
+          all = λ v m. either (λ (f : Contains (take i ends) v). l.all v f) (λ (s : w ≡ v). inl (subst (λ (x : ℕ). HasEdge row (edge u a (vertex x))) s has)) (Contains-push_cases (take i ends) w v m);
+          ascending = λ up. l.ascending (front_up up);
+        })
+
+    pub lacking_more : (HasEdge row (edge u a (vertex w)) → ⊥) → AppendsLacking row u a (take (i + 1) ends) before (now ++ edge u a (vertex w) ∷ [])
+    lacking_more lacks =
+        rw (take_more ends i d lt) (record {
+          new = l.new ++ edge u a (vertex w) ∷ [];
+          behind = ap (λ (x : List Edge). x ++ edge u a (vertex w) ∷ []) l.behind ∙ append_assoc before l.new (edge u a (vertex w) ∷ []);
+          each = All-push (λ (e : Edge). (e.src ≡ u) × (e.label ≡ a) × Contains longer e.dst.0 × (HasEdge row e → ⊥)) l.new (edge u a (vertex w)) each_longer (refl, refl, Contains-push (take i ends) w, lacks);
+          all = λ v m. either
+              (λ (f : Contains (take i ends) v). either (λ (h : HasEdge row (edge u a (vertex v))). inl h) (λ (h : Contains l.new (edge u a (vertex v))). inr (Contains-append_left l.new (edge u a (vertex w) ∷ []) (edge u a (vertex v)) h)) (l.all v f))
+              (λ (s : w ≡ v). inr (subst (λ (x : ℕ). Contains (l.new ++ edge u a (vertex w) ∷ []) (edge u a (vertex x))) s (Contains-push l.new (edge u a (vertex w)))))
+              (Contains-push_cases (take i ends) w v m);
+          ascending = λ up. all_pairs_push IsBefore l.new (edge u a (vertex w)) (l.ascending (front_up up)) (λ k f less. let h = l.each k f less in before_last (get_or l.new k f) h.0 h.1 (below_last up (get_or l.new k f).dst.0 h.2));
+        })
+      where
+        before_last : (e : Edge) → e.src ≡ u → e.label ≡ a → e.dst.0 < w → IsBefore e (edge u a (vertex w))
+        before_last e s t less = inr (ap (λ (x : Vertex). x.0) s, inr (ap (λ (x : LabelId). x.0) t, less))
+
+    -- the edge is pushed unless the row has it
+    pub lacking_next : (after : List Edge) → (HasEdge row (edge u a (vertex w)) × (after ≡ now)) ⊎ ((HasEdge row (edge u a (vertex w)) → ⊥) × (after ≡ now ++ edge u a (vertex w) ∷ [])) → AppendsLacking row u a (take (i + 1) ends) before after
+    lacking_next after o =
+        either
+        (λ (h : HasEdge row (edge u a (vertex w)) × (after ≡ now)). subst (λ (x : List Edge). AppendsLacking row u a (take (i + 1) ends) before x) (sym h.1) (lacking_skip h.0))
+        (λ (h : (HasEdge row (edge u a (vertex w)) → ⊥) × (after ≡ now ++ edge u a (vertex w) ∷ [])). subst (λ (x : List Edge). AppendsLacking row u a (take (i + 1) ends) before x) (sym h.1) (lacking_more h.0))
+        o
 
 -- ---- label after label
 
@@ -206,8 +289,8 @@ module _ (edges : List Born) (IsOne : Edge → Type 0) (u : Vertex) (blocks : Li
 
 -- ---- vertex after vertex
 
-pub appends_none : (edges : List Born) (IsOne : Edge → Type 0) (P : ℕ → Type 0) (out : List Edge) → ((v : ℕ) → P v → ⊥) → AppendsJoins edges IsOne P out out
-appends_none edges IsOne P out none =
+pub appends_idle : (edges : List Born) (IsOne : Edge → Type 0) (P : ℕ → Type 0) (out : List Edge) → ((e : Edge) → IsOne e → P e.src.0 → ⊥) → AppendsJoins edges IsOne P out out
+appends_idle edges IsOne P out none =
     record {
       new = [];
       behind = sym (append-nil out);
@@ -215,10 +298,13 @@ appends_none edges IsOne P out none =
         joins = All-nil IsOne;
         sources = All-nil (λ (e : Edge). P e.src.0);
         absent = All-nil (λ (e : Edge). HasEdge edges e → ⊥);
-        complete = λ e c p. absurd (none e.src.0 p);
+        complete = λ e c p. absurd (none e c p);
         ascending = λ i j d lt end. absurd (omega arith);
       };
     }
+
+pub appends_none : (edges : List Born) (IsOne : Edge → Type 0) (P : ℕ → Type 0) (out : List Edge) → ((v : ℕ) → P v → ⊥) → AppendsJoins edges IsOne P out out
+appends_none edges IsOne P out none = appends_idle edges IsOne P out (λ e c p. none e.src.0 p)
 
 module _ (edges : List Born) (IsOne : Edge → Type 0) (P Q R : ℕ → Type 0) (to : (v : ℕ) → R v → P v ⊎ Q v) (back : (v : ℕ) → P v ⊎ Q v → R v) (before : (v w : ℕ) → P v → Q w → v < w) where
   joins_both : (xs ys : List Edge) → JoinsWhere edges IsOne P xs → JoinsWhere edges IsOne Q ys → JoinsWhere edges IsOne R (xs ++ ys)
@@ -279,11 +365,6 @@ pub all_joins_are_round : (n : Normal) (l : Loaded) (since : ℕ) (mid end : Lis
 all_joins_are_round n l since mid end h f g =
     let a = two_spans l (IsJoinOf n l.edges since) mid end h (λ e c. source_is_row n l since h c.0 e c.1) f g in
     record { joins = a.joins; absent = a.absent; complete = λ x e c. a.complete e (x, c); ascending = a.ascending }
-
-pub all_joins_at : (n : Normal) (l : Loaded) (since : ℕ) (x : Vertex) (mid end : List Edge) → IsLoaded l → AppendsJoins l.edges (IsCandidate n l.edges since x) (LiesIn l.low) [] mid → AppendsJoins l.edges (IsCandidate n l.edges since x) (LiesInHigh l.high) mid end → IsJoinsAt n l.edges since x end
-all_joins_at n l since x mid end h f g =
-    let a = two_spans l (IsCandidate n l.edges since x) mid end h (source_is_row n l since h x) f g in
-    record { joins = a.joins; absent = a.absent; complete = a.complete; ascending = a.ascending }
 
 pub vertex_appends : (edges : List Born) (IsOne : Edge → Type 0) (u : Vertex) (blocks passed : List Block) → passed ≡ blocks → GivesJoins IsOne u blocks → (before after : List Edge) → AppendsBelow (row_of u.0 edges) u passed 65536 before after → All (λ k. k.label.0 < 65536) passed → AppendsJoins edges IsOne (λ v. v ≡ u.0) before after
 vertex_appends edges IsOne u blocks passed same gives before after a few =

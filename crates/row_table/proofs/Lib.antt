@@ -9,3 +9,5 @@ mod SieveLemmas
 mod JoinLemmas
 mod CentreLemmas
 mod ThroughLemmas
+mod SourceLemmas
+mod ChainLemmas

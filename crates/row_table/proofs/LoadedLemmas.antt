@@ -1,5 +1,5 @@
 -- What is loaded stays in order.
-use Rattle.std.proofs.Common.{◌≡◌, ℕ, ◌+◌, ◌<◌, ◌≤◌, ◌⊎◌, Some, List, ◌++◌, length, get_or, take, drop, arith, inl, inr}
+use Rattle.std.proofs.Common.{◌≡◌, ℕ, ◌+◌, ◌<◌, ◌≤◌, ◌⊎◌, Option, Some, None, List, ◌++◌, length, get_or, take, drop, sym, subst, arith, inl, inr}
 use Rattle.std.specs.Prelude.{All, Contains}
 use Rattle.std.proofs.lemmas.List.Elements.{All-append, All-weaker, All-map, All-contains}
 use Rattle.std.proofs.lemmas.List.Sorted.{All-permutation}
@@ -12,7 +12,7 @@ use Rattle.closing_machine.proofs.Ordered.{ordered_append}
 use Rattle.std.proofs.lemmas.List.{length-take, length-drop, get_or-take, get_or-drop}
 use Rattle.closing_machine.proofs.Members.{either}
 use Rattle.row_table.specs.declared.span.Span.{Span}
-use Rattle.row_table.specs.Index.{PartsAt}
+use Rattle.row_table.specs.Index.{PartsAt, AreStarts, AreHighStarts}
 use Rattle.row_table.proofs.OrderLemmas.{part_ordered, drop_ordered}
 use Rattle.row_table.specs.Loaded.{Loaded, IsLoaded, IsRow, span_of}
 
@@ -24,6 +24,13 @@ absorbed l new birth all h o inside =
       ordered = o.ordered;
       sources = All-permutation (λ (b : Born). IsRow l b.edge.src.0) (l.edges ++ all_born new birth) all o.same (All-append (λ (b : Born). IsRow l b.edge.src.0) l.edges (all_born new birth) h.sources (All-map (λ (b : Born). IsRow l b.edge.src.0) (λ (e : Edge). born e birth) new inside));
     }
+
+-- the starts of a second interval, where there is one
+pub high_starts_some : (edges : List Born) (high : Option Span) (s : Span) (starts : List ℕ) → high ≡ Some s → AreStarts edges s starts → AreHighStarts edges high starts
+high_starts_some edges high s starts e are = subst (λ (o : Option Span). AreHighStarts edges o starts) (sym e) are
+
+pub high_starts_none : (edges : List Born) (high : Option Span) (starts : List ℕ) → high ≡ None → AreHighStarts edges high starts
+high_starts_none edges high starts e = subst (λ (o : Option Span). AreHighStarts edges o starts) (sym e) tt
 
 module _ (low high : Part) (p : IsPart low) (q : IsPart high) (apart : low.hi ≤ high.lo) where
   before : (x y : Born) → Contains low.edges x → Contains high.edges y → IsBefore x.edge y.edge

@@ -1,8 +1,8 @@
 -- The order of edges, and parts of lists in order.
-use Rattle.std.proofs.Common.{◌≡◌, ℕ, ◌+◌, ◌<◌, ◌≤◌, ◌⊎◌, List, length, get_or, take, drop, sym, ap, ◌∙◌, arith, inl, inr}
+use Rattle.std.proofs.Common.{◌≡◌, ℕ, ◌+◌, ◌-◌, ◌<◌, ◌≤◌, ◌⊎◌, List, ◌++◌, length, get_or, take, drop, sym, ap, subst, ◌∙◌, arith, inl, inr}
 use Rattle.std.specs.Prelude.{Contains}
 use Rattle.std.proofs.lemmas.Bool.{cases_lt}
-use Rattle.std.proofs.lemmas.List.{length-take, length-drop, get_or-take, get_or-drop}
+use Rattle.std.proofs.lemmas.List.{length-take, length-drop, get_or-take, get_or-drop, drop-take, take-take, take-append-drop}
 use Rattle.graph_words.specs.declared.types.Edge.{Edge}
 use Rattle.graph_words.specs.declared.types.Born.{Born}
 use Rattle.graph_words.specs.Reach.{IsBefore}
@@ -84,3 +84,9 @@ drop_ordered xs p ordered i j d lt end =
 
 pub place_in_drop : {X : Type 0} (xs : List X) (p : ℕ) (x : X) → Contains (drop p xs) x → (k : ℕ) × (p ≤ k) × (k < length xs) × (get_or xs k x ≡ x)
 place_in_drop xs p x m = let f = length-drop p xs in (p + m.0, omega arith, omega (arith, m.1), sym (get_or-drop p xs m.0 x) ∙ m.2)
+
+pub front_grows : {X : Type 0} (xs : List X) (i j : ℕ) → i ≤ j → take i xs ++ take (j - i) (drop i xs) ≡ take j xs
+front_grows xs i j le =
+    let e : i + (j - i) ≡ j = omega arith in
+    let back : drop i (take j xs) ≡ take (j - i) (drop i xs) = subst (λ (k : ℕ). drop i (take k xs) ≡ take (j - i) (drop i xs)) e (drop-take i (j - i) xs) in
+    ap (λ (l : List _). take i xs ++ l) (sym back) ∙ ap (λ (l : List _). l ++ drop i (take j xs)) (sym (take-take i j xs le)) ∙ take-append-drop i (take j xs)

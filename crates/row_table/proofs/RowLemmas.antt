@@ -3,14 +3,14 @@ use Rattle.std.proofs.Common.{◌≡◌, ◌≢◌, ℕ, ◌+◌, ◌-◌, ◌<�
 use Rattle.std.specs.Prelude.{All, filter}
 use Rattle.std.proofs.lemmas.Bool.{cases_lt}
 use Rattle.std.proofs.lemmas.Bool.Decides.{nat_tests}
-use Rattle.std.proofs.lemmas.List.{append-nil, length-take, length-drop, take-append-drop, get_or-take, get_or-drop, drop-drop}
+use Rattle.std.proofs.lemmas.List.{append-nil, length-take, length-drop, take-append-drop, get_or-take, get_or-drop, get_or_default, drop-drop}
 use Rattle.std.proofs.lemmas.List.Elements.{All-head, All-tail, filter-append}
 use Rattle.graph_words.specs.declared.types.Born.{Born}
 use Rattle.graph_words.specs.declared.types.Edge.{Edge}
 use Rattle.graph_words.specs.Reach.{IsBefore}
 use Rattle.partition_file.specs.Spelling.{is_from, row_of}
 use Rattle.closing_machine.specs.Rounds.{IsOrdered}
-use Rattle.row_table.specs.Index.{AreBefore, PartsAt}
+use Rattle.row_table.specs.Index.{AreBefore, NoneBelow, PartsAt}
 use Rattle.row_table.specs.Loaded.{Loaded, IsLoaded, IsRow, LiesIn, LiesInHigh}
 use Rattle.row_table.specs.declared.span.Span.{Span}
 use Rattle.closing_machine.proofs.Members.{either}
@@ -59,6 +59,31 @@ parts_here edges v n ordered h lt here =
       ];
     }
 
+module _ (edges : List Born) (v : ℕ) (ordered : IsOrdered edges) where
+  -- those up to one that begins before v do so too
+  pub before_up_to : (n : ℕ) (f : Born) → n < length edges → (get_or edges n f).edge.src.0 < v → AreBefore edges v (n + 1)
+  before_up_to n f lt here =
+      record {
+        within = omega arith;
+        before = λ k d le. (let at : (get_or edges n d).edge.src.0 < v = subst (λ (b : Born). b.edge.src.0 < v) (get_or_default edges n f d lt) here in
+            elim (cases_lt k n) [
+              | inl l ↦ (let g : (get_or edges k d).edge.src.0 ≤ (get_or edges n d).edge.src.0 = source_grows _ _ (ordered k n d l lt) in omega arith)
+              | inr g ↦ (let e : n ≡ k = omega arith in subst (λ (j : ℕ). (get_or edges j d).edge.src.0 < v) e at)
+            ]);
+      }
+
+  -- those from one on that doesn't don't either
+  pub none_below : (n : ℕ) (f : Born) → n < length edges → v ≤ (get_or edges n f).edge.src.0 → NoneBelow edges v n
+  none_below n f lt here k d le end =
+      let at : v ≤ (get_or edges n d).edge.src.0 = subst (λ (b : Born). v ≤ b.edge.src.0) (get_or_default edges n f d lt) here in
+      elim (cases_lt n k) [
+        | inl l ↦ (let g : (get_or edges n d).edge.src.0 ≤ (get_or edges k d).edge.src.0 = source_grows _ _ (ordered n k d l end) in omega arith)
+        | inr g ↦ (let e : n ≡ k = omega arith in subst (λ (j : ℕ). v ≤ (get_or edges j d).edge.src.0) e at)
+      ]
+
+pub none_below_end : (edges : List Born) (v : ℕ) → NoneBelow edges v (length edges)
+none_below_end edges v k d le lt = absurd (omega arith)
+
 pub parts_end : (edges : List Born) (v n : ℕ) → AreBefore edges v n → length edges ≤ n → PartsAt edges v n
 parts_end edges v n h le = record { front = h; behind = λ k d a b. absurd (omega arith) }
 
@@ -66,6 +91,14 @@ parts_end edges v n h le = record { front = h; behind = λ k d a b. absurd (omeg
 
 abbrev pub some_born : Born
 some_born = record { edge = record { src = record { 0 = 0 }; label = record { 0 = 0 }; dst = record { 0 = 0 } }; birth = 0 }
+
+-- sources do not fall
+pub sources_grow : (edges : List Born) → IsOrdered edges → (i j : ℕ) → i ≤ j → j < length edges → (get_or edges i some_born).edge.src.0 ≤ (get_or edges j some_born).edge.src.0
+sources_grow edges sorted i j le lt =
+    elim (cases_lt i j) [
+      | inl l ↦ source_grows _ _ (sorted i j some_born l lt)
+      | inr g ↦ (let e : i ≡ j = omega arith in subst (λ (k : ℕ). (get_or edges i some_born).edge.src.0 ≤ (get_or edges k some_born).edge.src.0) e (omega arith))
+    ]
 
 module _ (edges : List Born) (v p q : ℕ) (first : PartsAt edges v p) (second : PartsAt edges (v + 1) q) where
   pub in_order : p ≤ q

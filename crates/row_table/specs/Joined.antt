@@ -11,7 +11,7 @@ use Rattle.normal_law.specs.Closed.{Joins}
 use Rattle.partition_file.specs.Spelling.{row_of}
 use Rattle.closing_machine.specs.Rounds.{IsCandidate, HasEdge}
 use Rattle.row_table.specs.declared.blocks.Block.{Block}
-use Rattle.row_table.specs.Sieve.{HasVertex}
+use Rattle.row_table.specs.Sieve.{HasNumber}
 use Rattle.row_table.specs.Loaded.{IsCentre}
 
 -- ---- what the rows give
@@ -52,9 +52,13 @@ Gives blocks a w = (k : Block) × Contains blocks k × (k.label ≡ a) × ((c : 
 abbrev pub AddsJoins : Normal → LabelId → List Born → List Block → List Block → Type 0
 AddsJoins n first row before after = (a : LabelId) (w : Vertex) → Gives after a w ↔ (Gives before a w ⊎ JoinsTo n first row a w)
 
--- each label that joins to some label behind the first one is among these
-abbrev pub AreSeconds : Normal → LabelId → List LabelId → Type 0
-AreSeconds n first labels = (c a : LabelId) → Joins n first c a → Contains labels c
+-- each label of the edges that joins to some label behind the first one is among these
+abbrev pub AreSeconds : Normal → LabelId → List Born → List LabelId → Type 0
+AreSeconds n first edges labels = (c : Born) (a : LabelId) → Contains edges c → Joins n first c.edge.label a → Contains labels c.edge.label
+
+-- the set has each label of the edges
+abbrev pub HasLabels : List Born → List Bool → Type 0
+HasLabels edges set = (c : Born) → Contains edges c → HasNumber set c.edge.label.0
 
 -- the blocks give what they gave, and what the first label joins to with the edges of the row that have a second label
 abbrev pub AddsSecond : Normal → LabelId → List Born → LabelId → List Block → List Block → Type 0
@@ -88,10 +92,6 @@ Through n since x row newer b a w = (b.edge.dst ≡ x) × (((since ≤ b.birth) 
 abbrev pub AddsThroughOne : Normal → ℕ → Vertex → List Born → List Born → Born → List Block → List Block → Type 0
 AddsThroughOne n since x row newer b before after = (a : LabelId) (w : Vertex) → Gives after a w ↔ (Gives before a w ⊎ Through n since x row newer b a w)
 
-abbrev pub AddsThrough : Normal → ℕ → Vertex → List Born → List Born → List Born → List Block → List Block → Type 0
-AddsThrough n since x row newer firsts before after = (a : LabelId) (w : Vertex)
-    → Gives after a w ↔ (Gives before a w ⊎ ((b : Born) × Contains firsts b × Through n since x row newer b a w))
-
 -- the blocks give just the joins of a sort from u
 abbrev pub GivesJoins : (Edge → Type 0) → Vertex → List Block → Type 0
 GivesJoins IsOne u blocks = (a : LabelId) (w : Vertex) → Gives blocks a w ↔ IsOne (edge u a w)
@@ -119,17 +119,25 @@ BlockGives k a w = (k.label ≡ a) × EndsHere k.seconds.now w
 
 -- the set has these ends too, and no other
 pub record MarksEnds (given : ℕ → Type 0) (before after : List Bool) : Type 0 where
-  pub keeps : (w : ℕ) → HasVertex before w → HasVertex after w
-  pub has : (w : ℕ) → given w → HasVertex after w
-  pub only : (w : ℕ) → HasVertex after w → HasVertex before w ⊎ given w
+  pub keeps : (w : ℕ) → HasNumber before w → HasNumber after w
+  pub has : (w : ℕ) → given w → HasNumber after w
+  pub only : (w : ℕ) → HasNumber after w → HasNumber before w ⊎ given w
 
 -- the ends that were not in the set are in it now, and were put to those found
 pub record Sifts (given : ℕ → Type 0) (before after : List Bool) (found_before found_after : List ℕ) : Type 0 where
   pub marks : MarksEnds given before after
   pub keeps : (w : ℕ) → Contains found_before w → Contains found_after w
-  pub has : (w : ℕ) → given w → HasVertex before w ⊎ Contains found_after w
-  pub only : (w : ℕ) → Contains found_after w → Contains found_before w ⊎ ((HasVertex before w → ⊥) × given w)
-  pub once : All (HasVertex before) found_before → IsDistinct eqb found_before → All (HasVertex after) found_after × IsDistinct eqb found_after
+  pub has : (w : ℕ) → given w → HasNumber before w ⊎ Contains found_after w
+  pub only : (w : ℕ) → Contains found_after w → Contains found_before w ⊎ ((HasNumber before w → ⊥) × given w)
+  pub once : All (HasNumber before) found_before → IsDistinct eqb found_before → All (HasNumber after) found_after × IsDistinct eqb found_after
+
+-- the edges of a label to those of the ends to which the row has none stand behind what was there
+pub record AppendsLacking (row : List Born) (u : Vertex) (a : LabelId) (ends : List ℕ) (before after : List Edge) : Type 0 where
+  pub new : List Edge
+  pub behind : after ≡ before ++ new
+  pub each : All (λ e. (e.src ≡ u) × (e.label ≡ a) × Contains ends e.dst.0 × (HasEdge row e → ⊥)) new
+  pub all : (w : ℕ) → Contains ends w → HasEdge row (edge u a (vertex w)) ⊎ Contains new (edge u a (vertex w))
+  pub ascending : AllPairs (λ v w. v < w) ends → IsAscending new
 
 -- what the blocks give for a label, less the row, in order
 pub record LabelJoins (row : List Born) (u : Vertex) (blocks : List Block) (a : LabelId) (new : List Edge) : Type 0 where
@@ -163,7 +171,7 @@ pub record IsNextLabel (blocks : List Block) (from next : ℕ) : Type 0 where
 
 -- the set has just the vertices where an edge ends
 abbrev pub IsEndSet : List Born → List Bool → Type 0
-IsEndSet edges ends = (w : ℕ) → HasVertex ends w ↔ EndsHere edges w
+IsEndSet edges ends = (w : ℕ) → HasNumber ends w ↔ EndsHere edges w
 
 -- the centres of a kind, in ascending order
 pub record CentresWhere (edges : List Born) (P : ℕ → Type 0) (centres : List Vertex) : Type 0 where

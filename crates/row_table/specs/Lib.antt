@@ -1,4 +1,5 @@
 pub mod Loaded
 pub mod Index
 pub mod Sieve
+pub mod Chains
 pub mod Joined

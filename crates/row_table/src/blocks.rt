@@ -1,10 +1,13 @@
 //! The blocks of a row: runs of second edges, each with a label that its edges join to behind a first edge.
-ghost use Rattle.std.specs.Prelude.{◌≡◌, ◌↔◌, Contains, ◌+◌, ◌<◌, ◌≤◌, All, IsTrue, length, slice_range, slice_index_or, OnOk};
+ghost use Rattle.std.specs.Prelude.{◌≡◌, ◌↔◌, Contains, ◌+◌, ◌<◌, ◌≤◌, All, IsTrue, length, slice_range, slice_index_or, IfSome, OnOk};
 ghost use Rattle.graph_words.specs.declared.types.Born.{Born as ABorn};
+ghost use Rattle.graph_words.specs.declared.types.LabelId.{LabelId as ALabel};
 ghost use Rattle.normal_law.specs.NormalForm.{normal_form};
-ghost use Rattle.row_table.specs.Joined.{LabelsAscend, AddsJoins, AddsSecond, AddsFirst, AddsRows, AreSeconds, Counts, GivesJoins, IsJoinOf, PartsLabels};
+ghost use Rattle.row_table.specs.Joined.{LabelsAscend, AddsJoins, AddsSecond, AddsFirst, AddsRows, AreSeconds, Counts, GivesJoins, HasLabels, IsJoinOf, PartsLabels};
+ghost use Rattle.row_table.specs.Sieve.{HasNumber};
 ghost use Rattle.row_table.specs.Loaded.{newer_of};
 
+use crate::number_set::NumberSet;
 use crate::row_starts::part;
 use crate::rows::Rows;
 use graph_words::{Born, LabelId, Vertex};
@@ -59,12 +62,18 @@ fn label_place(row: &[Born], from: u32) -> usize
 }
 
 /// The edges of a row that have the label.
-fn run_of(row: &[Born], label: LabelId) -> &[Born]
+pub(crate) fn run_of(row: &[Born], label: LabelId) -> &[Born]
     requires { LabelsAscend row.now }
     ensures { (b : ABorn) → Contains result.now b ↔ (Contains row.now b × (b.edge.label ≡ label)) }
 {
     let number = u32::from(label.0);
     let start = label_place(row, number);
+    if start == row.len() {
+        return &[];
+    }
+    if row[start].edge.label.0 != label.0 {
+        return &[];
+    }
     let end = label_place(row, number + 1);
     part(row, start, end)
 }
@@ -108,7 +117,8 @@ fn add_second<'a>(
     Ok(())
 }
 
-/// Adds the blocks of a first label and the row behind it. All labels that join behind the first one are given.
+/// Adds the blocks of a first label and the row behind it. All labels of the row that join behind the first one are
+/// given.
 pub(crate) fn add_row<'a>(
     normal: &Normal,
     first: LabelId,
@@ -117,7 +127,7 @@ pub(crate) fn add_row<'a>(
     blocks: &mut Vec<Block<'a>>,
 ) -> Result<(), AllocError>
     requires row { LabelsAscend row.now }
-    requires labels { AreSeconds (normal_form normal.now) first labels.now }
+    requires labels { AreSeconds (normal_form normal.now) first row.now labels.now }
     ensures { OnOk result (AddsJoins (normal_form normal.now) first row.now blocks.old.items blocks.new.items) }
 {
     for label in labels {
@@ -131,9 +141,45 @@ pub(crate) fn add_row<'a>(
 struct Seconds<'a> {
     normal: &'a Normal,
     rows: &'a Rows,
+    /// The labels of the second edges, where it pays to leave others out.
+    labels: Option<&'a NumberSet>,
     /// Whether every first edge counts, or those alone that are born before `since`.
     every: bool,
     since: u64,
+}
+
+/// Puts the labels of the edges into the set.
+pub(crate) fn mark_labels(edges: &[Born], labels: &mut NumberSet) -> Result<(), AllocError>
+    ensures { OnOk result (HasLabels edges.now labels.new) }
+{
+    for born in edges {
+        labels.add(u32::from(born.edge.label.0))?;
+    }
+    Ok(())
+}
+
+/// Leaves out the labels that are not in the set.
+fn keep_known(labels: &mut Vec<LabelId>, known: &NumberSet)
+    ensures { (l : ALabel) → Contains labels.old.items l → HasNumber known.now l.0 → Contains labels.new.items l }
+{
+    labels.retain(|label| known.has(u32::from(label.0)));
+}
+
+/// Sets the labels to those that join behind a first label. Some that no second edge has may be left out.
+fn set_labels(
+    seconds: &Seconds<'_>,
+    first: LabelId,
+    labels: &mut Vec<LabelId>,
+) -> Result<(), AllocError>
+    requires { IfSome seconds.now.labels (λ known. HasLabels seconds.now.rows.now.edges known.now) }
+    ensures { OnOk result (AreSeconds (normal_form seconds.now.normal.now) first seconds.now.rows.now.edges labels.new.items) }
+{
+    labels.clear();
+    seconds.normal.seconds(first, labels)?;
+    if let Some(known) = seconds.labels {
+        keep_known(labels, known);
+    }
+    Ok(())
 }
 
 /// Whether a first edge counts: if every one does, or it is born before `since`.
@@ -150,7 +196,7 @@ fn add_first<'a>(
     labels: &[LabelId],
     blocks: &mut Vec<Block<'a>>,
 ) -> Result<(), AllocError>
-    requires { AreSeconds (normal_form seconds.now.normal.now) first.edge.label labels.now }
+    requires { AreSeconds (normal_form seconds.now.normal.now) first.edge.label seconds.now.rows.now.edges labels.now }
     ensures { OnOk result (AddsFirst (normal_form seconds.now.normal.now) seconds.now.every seconds.now.since first seconds.now.rows.now.edges blocks.old.items blocks.new.items) }
 {
     if !counts(seconds.every, first, seconds.since) {
@@ -173,7 +219,7 @@ fn add_firsts<'a>(
     blocks: &mut Vec<Block<'a>>,
 ) -> Result<(), AllocError>
     requires run { All (λ b. b.edge.label ≡ label) firsts.now }
-    requires labels { AreSeconds (normal_form seconds.now.normal.now) label labels.now }
+    requires labels { AreSeconds (normal_form seconds.now.normal.now) label seconds.now.rows.now.edges labels.now }
     ensures { OnOk result (AddsRows (normal_form seconds.now.normal.now) seconds.now.every seconds.now.since firsts.now seconds.now.rows.now.edges blocks.old.items blocks.new.items) }
 {
     for born in firsts {
@@ -182,7 +228,7 @@ fn add_firsts<'a>(
     Ok(())
 }
 
-/// The same, or nothing where no label joins behind the first edges' label.
+/// The same, or nothing where no label of the second edges joins behind the first edges' label.
 fn add_firsts_if<'a>(
     seconds: &Seconds<'a>,
     firsts: &[Born],
@@ -191,7 +237,7 @@ fn add_firsts_if<'a>(
     blocks: &mut Vec<Block<'a>>,
 ) -> Result<(), AllocError>
     requires run { All (λ b. b.edge.label ≡ label) firsts.now }
-    requires labels { AreSeconds (normal_form seconds.now.normal.now) label labels.now }
+    requires labels { AreSeconds (normal_form seconds.now.normal.now) label seconds.now.rows.now.edges labels.now }
     ensures { OnOk result (AddsRows (normal_form seconds.now.normal.now) seconds.now.every seconds.now.since firsts.now seconds.now.rows.now.edges blocks.old.items blocks.new.items) }
 {
     if labels.is_empty() {
@@ -208,15 +254,15 @@ fn add_rows<'a>(
     labels: &mut Vec<LabelId>,
     blocks: &mut Vec<Block<'a>>,
 ) -> Result<(), AllocError>
-    requires { LabelsAscend firsts.now }
+    requires firsts { LabelsAscend firsts.now }
+    requires labels { IfSome seconds.now.labels (λ known. HasLabels seconds.now.rows.now.edges known.now) }
     ensures { OnOk result (AddsRows (normal_form seconds.now.normal.now) seconds.now.every seconds.now.since firsts.now seconds.now.rows.now.edges blocks.old.items blocks.new.items) }
 {
     let mut start = 0;
     while start < firsts.len() {
         let label = firsts[start].edge.label;
         let end = run_end(firsts, start, label);
-        labels.clear();
-        seconds.normal.seconds(label, labels)?;
+        set_labels(seconds, label, labels)?;
         add_firsts_if(seconds, part(firsts, start, end), label, labels, blocks)?;
         start = end;
     }
@@ -229,18 +275,21 @@ pub(crate) fn set_blocks<'a>(
     normal: &'a Normal,
     rows: &'a Rows,
     newer: &'a Rows,
+    newer_labels: &'a NumberSet,
     since: u64,
     vertex: Vertex,
     labels: &mut Vec<LabelId>,
     blocks: &mut Vec<Block<'a>>,
 ) -> Result<(), AllocError>
-    requires { newer.now ≡ newer_of since rows.now }
+    requires newer { newer.now ≡ newer_of since rows.now }
+    requires labels { HasLabels newer.now.edges newer_labels.now }
     ensures { OnOk result (GivesJoins (IsJoinOf (normal_form normal.now) rows.now.edges since) vertex blocks.new.items) }
 {
     blocks.clear();
     let with_all = Seconds {
         normal,
         rows,
+        labels: None,
         every: true,
         since,
     };
@@ -248,6 +297,7 @@ pub(crate) fn set_blocks<'a>(
     let with_newer = Seconds {
         normal,
         rows: newer,
+        labels: Some(newer_labels),
         every: false,
         since,
     };

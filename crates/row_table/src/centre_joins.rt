@@ -1,16 +1,18 @@
-//! The joins at one centre, row after row.
-ghost use Rattle.std.specs.Prelude.{◌≡◌, ◌≤◌, [], IfSome, IfOk, OnOk, OnErr};
+//! The joins at one centre, source after source.
+ghost use Rattle.std.specs.Prelude.{◌≡◌, ◌<◌, [], length, IfOk, OnOk, OnErr};
+ghost use Rattle.graph_words.specs.declared.types.Vertex.{Vertex as AVertex};
 ghost use Rattle.normal_law.specs.NormalForm.{normal_form};
 ghost use Rattle.partition_file.specs.Spelling.{row_of};
 ghost use Rattle.closing_machine.specs.Rounds.{IsCandidate};
 ghost use Rattle.closing_machine.specs.JoinsAt.{IsJoinsAt};
-ghost use Rattle.row_table.specs.Loaded.{LiesIn, LiesInHigh, newer_edges};
-ghost use Rattle.row_table.specs.Joined.{AddsThrough, AddsThroughOne, AppendsJoins, GivesJoins, LabelsAscend};
+ghost use Rattle.row_table.specs.Chains.{AreLinks, AtSource, BeginsAt, IsNext, IsNextSource};
+ghost use Rattle.row_table.specs.Loaded.{newer_edges};
+ghost use Rattle.row_table.specs.Joined.{AddsThroughOne, AppendsJoins, GivesJoins, LabelsAscend};
 
 use crate::blocks::{Block, add_row};
+use crate::in_edges::InEdges;
 use crate::rows::{Rows, born_since};
 use crate::sieve::Sieve;
-use crate::span::Span;
 use graph_words::{Born, Edge, EdgeList, LabelId, Vertex};
 use normal_form::Normal;
 use std::alloc::AllocError;
@@ -19,6 +21,8 @@ use std::alloc::AllocError;
 #[derive(Clone, Copy)]
 struct Centre<'a> {
     rows: &'a Rows,
+    /// Behind each edge, the place of the next one that ends where it does.
+    next: &'a [usize],
     row: &'a [Born],
     newer: &'a [Born],
     normal: &'a Normal,
@@ -26,7 +30,7 @@ struct Centre<'a> {
     vertex: Vertex,
 }
 
-/// Adds the blocks of an edge, if it ends at the centre: with each edge behind if it is new, and else with each new one.
+/// Adds the blocks of an edge into the centre: with each edge behind if it is new, and else with each new one.
 fn add_in_edge<'a>(
     centre: &Centre<'a>,
     first: Born,
@@ -35,11 +39,9 @@ fn add_in_edge<'a>(
 ) -> Result<(), AllocError>
     requires row { LabelsAscend centre.now.row.now }
     requires newer { LabelsAscend centre.now.newer.now }
+    requires end { first.edge.dst.0 ≡ centre.now.vertex.0 }
     ensures { OnOk result (AddsThroughOne (normal_form centre.now.normal.now) centre.now.since centre.now.vertex centre.now.row.now centre.now.newer.now first blocks.old.items blocks.new.items) }
 {
-    if first.edge.dst.0 != centre.vertex.0 {
-        return Ok(());
-    }
     labels.clear();
     centre.normal.seconds(first.edge.label, labels)?;
     if first.birth < centre.since {
@@ -56,128 +58,134 @@ fn add_in_edge<'a>(
     Ok(())
 }
 
-/// Adds the blocks of those edges that end at the centre.
-fn add_in_edges<'a>(
+/// Sets the blocks to those of the edges into the centre that begin where the one at this place does. Answers the place
+/// of the next one that begins elsewhere.
+fn set_source_blocks<'a>(
     centre: &Centre<'a>,
-    firsts: &[Born],
+    mut place: usize,
     labels: &mut Vec<LabelId>,
     blocks: &mut Vec<Block<'a>>,
-) -> Result<(), AllocError>
-    requires row { LabelsAscend centre.now.row.now }
-    requires newer { LabelsAscend centre.now.newer.now }
-    ensures { OnOk result (AddsThrough (normal_form centre.now.normal.now) centre.now.since centre.now.vertex centre.now.row.now centre.now.newer.now firsts.now blocks.old.items blocks.new.items) }
-{
-    for first in firsts {
-        add_in_edge(centre, *first, labels, blocks)?;
-    }
-    Ok(())
-}
-
-/// Adds the joins from one vertex through the centre that the rows lack.
-fn join_through<'a>(
-    centre: &Centre<'a>,
-    vertex: Vertex,
-    labels: &mut Vec<LabelId>,
-    blocks: &mut Vec<Block<'a>>,
-    sieve: &mut Sieve,
-    out: &mut Vec<Edge>,
-) -> Result<(), AllocError>
+) -> Result<usize, AllocError>
     requires row { centre.now.row.now ≡ row_of centre.now.vertex.0 centre.now.rows.now.edges }
     requires newer { centre.now.newer.now ≡ newer_edges centre.now.since centre.now.row.now }
-    ensures { OnOk result (AppendsJoins centre.now.rows.now.edges (IsCandidate (normal_form centre.now.normal.now) centre.now.rows.now.edges centre.now.since centre.now.vertex) (λ v. v ≡ vertex.0) out.old.items out.new.items) }
+    requires links { AreLinks centre.now.rows.now.edges 0 centre.now.next.now }
+    requires at { AtSource centre.now.rows.now.edges centre.now.vertex place }
+    requires there { place < length centre.now.rows.now.edges }
+    ensures next { IfOk result (λ end. IsNextSource centre.now.rows.now.edges centre.now.vertex place end) }
+    ensures blocks { OnOk result ((u : AVertex) → BeginsAt centre.now.rows.now.edges place u.0 → GivesJoins (IsCandidate (normal_form centre.now.normal.now) centre.now.rows.now.edges centre.now.since centre.now.vertex) u blocks.new.items) }
 {
-    let row = centre.rows.row(vertex.0);
     blocks.clear();
-    add_in_edges(centre, row, labels, blocks)?;
-    sieve.join_row(vertex, row, blocks, out)?;
-    Ok(())
+    let edges = centre.rows.edges();
+    let count = centre.rows.len();
+    let source = edges[place].edge.src;
+    while place < count && edges[place].edge.src.0 == source.0 {
+        add_in_edge(centre, edges[place], labels, blocks)?;
+        place = centre.next[place];
+    }
+    Ok(place)
 }
 
-/// Adds the joins from the vertices of an interval through the centre.
-fn join_span_through<'a>(
+/// Adds the joins through the centre that the rows lack from the source of the edge at a place. Answers the place of the
+/// next edge into the centre that begins elsewhere.
+fn join_source<'a>(
     centre: &Centre<'a>,
-    span: Span,
+    place: usize,
     labels: &mut Vec<LabelId>,
     blocks: &mut Vec<Block<'a>>,
+    sieve: &mut Sieve,
+    out: &mut Vec<Edge>,
+) -> Result<usize, AllocError>
+    requires row { centre.now.row.now ≡ row_of centre.now.vertex.0 centre.now.rows.now.edges }
+    requires newer { centre.now.newer.now ≡ newer_edges centre.now.since centre.now.row.now }
+    requires links { AreLinks centre.now.rows.now.edges 0 centre.now.next.now }
+    requires at { AtSource centre.now.rows.now.edges centre.now.vertex place }
+    requires there { place < length centre.now.rows.now.edges }
+    ensures next { IfOk result (λ end. IsNextSource centre.now.rows.now.edges centre.now.vertex place end) }
+    ensures joins { OnOk result (AppendsJoins centre.now.rows.now.edges (IsCandidate (normal_form centre.now.normal.now) centre.now.rows.now.edges centre.now.since centre.now.vertex) (BeginsAt centre.now.rows.now.edges place) out.old.items out.new.items) }
+{
+    let vertex = centre.rows.edges()[place].edge.src;
+    let end = set_source_blocks(centre, place, labels, blocks)?;
+    sieve.join_row(vertex, centre.rows.row(vertex.0), blocks, out)?;
+    Ok(end)
+}
+
+/// Adds the joins through the centre that the rows lack. The first edge into the centre is given.
+fn join_sources<'a>(
+    centre: &Centre<'a>,
+    mut place: usize,
     sieve: &mut Sieve,
     out: &mut Vec<Edge>,
 ) -> Result<(), AllocError>
     requires row { centre.now.row.now ≡ row_of centre.now.vertex.0 centre.now.rows.now.edges }
     requires newer { centre.now.newer.now ≡ newer_edges centre.now.since centre.now.row.now }
-    requires bounds { span.lo ≤ span.hi }
-    ensures { OnOk result (AppendsJoins centre.now.rows.now.edges (IsCandidate (normal_form centre.now.normal.now) centre.now.rows.now.edges centre.now.since centre.now.vertex) (LiesIn span) out.old.items out.new.items) }
+    requires links { AreLinks centre.now.rows.now.edges 0 centre.now.next.now }
+    requires first { IsNext centre.now.rows.now.edges centre.now.vertex.0 0 place }
+    requires none { out.old.items ≡ [] }
+    ensures { OnOk result (IsJoinsAt (normal_form centre.now.normal.now) centre.now.rows.now.edges centre.now.since centre.now.vertex out.new.items) }
 {
-    for vertex in span.lo..span.hi {
-        join_through(centre, Vertex(vertex), labels, blocks, sieve, out)?;
+    let alloc = centre.rows.alloc();
+    let mut labels = Vec::new(alloc);
+    let mut blocks = Vec::new(alloc);
+    let count = centre.rows.len();
+    while place < count {
+        place = join_source(centre, place, &mut labels, &mut blocks, sieve, out)?;
     }
     Ok(())
 }
 
-/// Adds the joins from the vertices of the second interval through the centre, where there is one.
-fn join_high_through<'a>(
-    centre: &Centre<'a>,
-    high: Option<Span>,
-    labels: &mut Vec<LabelId>,
-    blocks: &mut Vec<Block<'a>>,
-    sieve: &mut Sieve,
-    out: &mut Vec<Edge>,
-) -> Result<(), AllocError>
-    requires row { centre.now.row.now ≡ row_of centre.now.vertex.0 centre.now.rows.now.edges }
-    requires newer { centre.now.newer.now ≡ newer_edges centre.now.since centre.now.row.now }
-    requires bounds { IfSome high (λ s. s.lo ≤ s.hi) }
-    ensures { OnOk result (AppendsJoins centre.now.rows.now.edges (IsCandidate (normal_form centre.now.normal.now) centre.now.rows.now.edges centre.now.since centre.now.vertex) (LiesInHigh high) out.old.items out.new.items) }
-{
-    match high {
-        None => Ok(()),
-        Some(span) => {
-            join_span_through(centre, span, labels, blocks, sieve, out)?;
-            Ok(())
-        }
-    }
-}
-
-impl Rows {
+impl<'a> InEdges<'a> {
     /// The joins at a centre that the rows lack, in order.
-    fn joins_through(
+    fn joins_at(
         &self,
         vertex: Vertex,
         normal: &Normal,
         since: u64,
+        sieve: &mut Sieve,
     ) -> Result<EdgeList, AllocError>
         ensures { IfOk result (IsJoinsAt (normal_form normal.now) self.now.edges since vertex) }
     {
-        let alloc = self.alloc();
-        let row = self.row(vertex.0);
+        let rows = self.rows();
+        let alloc = rows.alloc();
+        let row = rows.row(vertex.0);
         let newer = born_since(alloc, row, since)?;
         let centre = Centre {
-            rows: self,
+            rows,
+            next: self.next(),
             row,
             newer: newer.as_slice(),
             normal,
             since,
             vertex,
         };
-        let mut labels = Vec::new(alloc);
-        let mut blocks = Vec::new(alloc);
-        let mut sieve = Sieve::new(alloc);
         let mut out = Vec::new(alloc);
-        let (low, high) = self.spans();
-        join_span_through(&centre, low, &mut labels, &mut blocks, &mut sieve, &mut out)?;
-        join_high_through(
-            &centre,
-            high,
-            &mut labels,
-            &mut blocks,
-            &mut sieve,
-            &mut out,
-        )?;
+        join_sources(&centre, self.first(vertex), sieve, &mut out)?;
         Ok(EdgeList::from_vec(out))
     }
 
     /// Sets `out` to the joins at a centre that the rows lack, in order: each edge that an edge into the centre and one
     /// out of it join to, of which one is born at or after `since`. After `AllocError` `out` is empty.
     ///
-    /// The edges into the centre are found by a pass over all rows, so that `joins` is the way to a whole round.
+    /// Only the edges into the centre and those out of it are looked at, and for each join a few of its source's row.
+    pub fn join_at(
+        &self,
+        centre: Vertex,
+        normal: &Normal,
+        since: u64,
+        sieve: &mut Sieve,
+        out: &mut EdgeList,
+    ) -> Result<(), AllocError>
+        ensures ok { OnOk result (IsJoinsAt (normal_form normal.now) self.now.edges since centre out.new) }
+        ensures err { OnErr result (out.new ≡ []) }
+    {
+        out.clear();
+        let joins = self.joins_at(centre, normal, since, sieve)?;
+        *out = joins;
+        Ok(())
+    }
+}
+
+impl Rows {
+    /// The same as `join_at` of the index, for one centre: it makes the index first, in a pass over all edges.
     pub fn join_at(
         &self,
         centre: Vertex,
@@ -189,8 +197,9 @@ impl Rows {
         ensures err { OnErr result (out.new ≡ []) }
     {
         out.clear();
-        let joins = self.joins_through(centre, normal, since)?;
-        *out = joins;
+        let index = self.in_edges()?;
+        let mut sieve = Sieve::new(self.alloc());
+        index.join_at(centre, normal, since, &mut sieve, out)?;
         Ok(())
     }
 }

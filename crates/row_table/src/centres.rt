@@ -4,26 +4,26 @@ ghost use Rattle.graph_words.specs.declared.types.Born.{Born as ABorn};
 ghost use Rattle.row_table.specs.Loaded.{AreCentres, IsCentre, LiesIn, LiesInHigh};
 ghost use Rattle.row_table.specs.Joined.{AppendsCentres, IsEndSet, vertex as vertex_of};
 
+use crate::number_set::NumberSet;
 use crate::rows::Rows;
 use crate::sieve::mark_run;
 use crate::span::Span;
-use crate::vertex_set::VertexSet;
 use graph_words::Vertex;
 use std::alloc::AllocError;
 
 /// Whether an edge of the rows begins at the vertex, and one of them ends there.
-fn is_centre(rows: &Rows, ends: &VertexSet, vertex: u32) -> bool
+fn is_centre(rows: &Rows, ends: &NumberSet, vertex: u32) -> bool
     requires { IsEndSet rows.now.edges ends.now }
     ensures yes { IsTrue result → IsCentre rows.now.edges (vertex_of vertex) }
     ensures all { (x y : ABorn) → Contains rows.now.edges x → Contains rows.now.edges y → x.edge.dst.0 ≡ vertex → y.edge.src.0 ≡ vertex → IsTrue result }
 {
-    ends.has(Vertex(vertex)) && !rows.row(vertex).is_empty()
+    ends.has(vertex) && !rows.row(vertex).is_empty()
 }
 
 /// Adds the centre, if the vertex is one.
 fn add_centre(
     rows: &Rows,
-    ends: &VertexSet,
+    ends: &NumberSet,
     vertex: u32,
     centres: &mut Vec<Vertex>,
 ) -> Result<(), AllocError>
@@ -40,7 +40,7 @@ fn add_centre(
 /// Adds the centres of an interval.
 fn add_centres(
     rows: &Rows,
-    ends: &VertexSet,
+    ends: &NumberSet,
     span: Span,
     centres: &mut Vec<Vertex>,
 ) -> Result<(), AllocError>
@@ -57,7 +57,7 @@ fn add_centres(
 /// Adds the centres of the second interval, where there is one.
 fn add_high_centres(
     rows: &Rows,
-    ends: &VertexSet,
+    ends: &NumberSet,
     high: Option<Span>,
     centres: &mut Vec<Vertex>,
 ) -> Result<(), AllocError>
@@ -80,7 +80,7 @@ impl Rows {
         ensures { IfOk result (λ v. AreCentres self.now.edges v.items) }
     {
         let alloc = self.alloc();
-        let mut ends = VertexSet::new(alloc);
+        let mut ends = NumberSet::new(alloc);
         mark_run(self.edges(), &mut ends)?;
         let mut centres = Vec::new(alloc);
         let (low, high) = self.spans();

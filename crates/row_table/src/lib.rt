@@ -4,15 +4,18 @@
 mod blocks;
 mod centre_joins;
 mod centres;
+mod in_edges;
 mod merging;
+mod number_set;
 mod round;
 mod row_starts;
 mod rows;
 mod sieve;
 mod span;
-mod vertex_set;
 
+pub use in_edges::InEdges;
 pub use rows::Rows;
+pub use sieve::Sieve;
 pub use span::Span;
 
 #[cfg(test)]

@@ -3,9 +3,10 @@ ghost use Rattle.std.specs.Prelude.{◌≡◌, ◌≤◌, IfSome, IfOk, OnOk};
 ghost use Rattle.normal_law.specs.NormalForm.{normal_form};
 ghost use Rattle.closing_machine.specs.Rounds.{IsRound};
 ghost use Rattle.row_table.specs.Loaded.{LiesIn, LiesInHigh, newer_of};
-ghost use Rattle.row_table.specs.Joined.{AppendsJoins, IsJoinOf};
+ghost use Rattle.row_table.specs.Joined.{AppendsJoins, HasLabels, IsJoinOf};
 
-use crate::blocks::{Block, set_blocks};
+use crate::blocks::{Block, mark_labels, set_blocks};
+use crate::number_set::NumberSet;
 use crate::rows::Rows;
 use crate::sieve::Sieve;
 use crate::span::Span;
@@ -18,6 +19,8 @@ use std::alloc::{AllocError, Global};
 struct Snapshot<'a> {
     rows: &'a Rows,
     newer: &'a Rows,
+    /// The labels of the new edges.
+    newer_labels: &'a NumberSet,
     normal: &'a Normal,
     since: u64,
 }
@@ -31,13 +34,15 @@ fn join_vertex<'a>(
     sieve: &mut Sieve,
     out: &mut Vec<Edge>,
 ) -> Result<(), AllocError>
-    requires { snapshot.now.newer.now ≡ newer_of snapshot.now.since snapshot.now.rows.now }
+    requires newer { snapshot.now.newer.now ≡ newer_of snapshot.now.since snapshot.now.rows.now }
+    requires labels { HasLabels snapshot.now.newer.now.edges snapshot.now.newer_labels.now }
     ensures { OnOk result (AppendsJoins snapshot.now.rows.now.edges (IsJoinOf (normal_form snapshot.now.normal.now) snapshot.now.rows.now.edges snapshot.now.since) (λ v. v ≡ vertex.0) out.old.items out.new.items) }
 {
     set_blocks(
         snapshot.normal,
         snapshot.rows,
         snapshot.newer,
+        snapshot.newer_labels,
         snapshot.since,
         vertex,
         labels,
@@ -57,6 +62,7 @@ fn join_span<'a>(
     out: &mut Vec<Edge>,
 ) -> Result<(), AllocError>
     requires newer { snapshot.now.newer.now ≡ newer_of snapshot.now.since snapshot.now.rows.now }
+    requires labels { HasLabels snapshot.now.newer.now.edges snapshot.now.newer_labels.now }
     requires bounds { span.lo ≤ span.hi }
     ensures { OnOk result (AppendsJoins snapshot.now.rows.now.edges (IsJoinOf (normal_form snapshot.now.normal.now) snapshot.now.rows.now.edges snapshot.now.since) (LiesIn span) out.old.items out.new.items) }
 {
@@ -76,6 +82,7 @@ fn join_high<'a>(
     out: &mut Vec<Edge>,
 ) -> Result<(), AllocError>
     requires newer { snapshot.now.newer.now ≡ newer_of snapshot.now.since snapshot.now.rows.now }
+    requires labels { HasLabels snapshot.now.newer.now.edges snapshot.now.newer_labels.now }
     requires bounds { IfSome high (λ s. s.lo ≤ s.hi) }
     ensures { OnOk result (AppendsJoins snapshot.now.rows.now.edges (IsJoinOf (normal_form snapshot.now.normal.now) snapshot.now.rows.now.edges snapshot.now.since) (LiesInHigh high) out.old.items out.new.items) }
 {
@@ -98,9 +105,12 @@ impl Rows {
         ensures { IfOk result (IsRound (normal_form normal.now) self.now.edges since) }
     {
         let newer = self.newer(since)?;
+        let mut newer_labels = NumberSet::new(alloc);
+        mark_labels(newer.edges(), &mut newer_labels)?;
         let snapshot = Snapshot {
             rows: self,
             newer: &newer,
+            newer_labels: &newer_labels,
             normal,
             since,
         };

@@ -7,8 +7,8 @@ ghost use Rattle.closing_machine.specs.Rounds.{HasEdge, IsOrdered};
 ghost use Rattle.row_table.specs.Loaded.{Loaded, LiesIn, IsBehind, IsLoaded, IsRow, StandsBehind, loaded_of, newer_of, newer_edges, Absorbs};
 ghost use Rattle.row_table.specs.Index.{PartsAt, AreStarts, AreHighStarts, AreRows};
 
-use crate::merging::{has_edge, merged};
-use crate::row_starts::{row_in, starts_of};
+use crate::merging::{has_edge, merge};
+use crate::row_starts::{row_in, set_starts, starts_of};
 use crate::span::Span;
 use graph_words::{Born, Edge, EdgeList};
 use partition_file::Partition;
@@ -204,9 +204,11 @@ impl Rows {
         ensures ok { OnOk result (Absorbs self.old new.now birth self.new) }
         ensures err { OnErr result (self.new ≡ self.old) }
     {
-        let alloc = self.alloc();
-        let all = merged(alloc, &self.edges, new.as_slice(), birth)?;
-        *self = Rows::of_edges(alloc, self.low, self.high, all)?;
+        merge(&mut self.edges, new.as_slice(), birth)?;
+        set_starts(&self.edges, self.low, &mut self.low_starts);
+        if let Some(high) = self.high {
+            set_starts(&self.edges, high, &mut self.high_starts);
+        }
         Ok(())
     }
 

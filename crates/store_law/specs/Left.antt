@@ -20,14 +20,10 @@ pub record IsCopy (text file : List ℕ) (len : ℕ) : Type 0 where
   pub bytes : take len file ≡ text
   pub all : length text ≡ len
 
--- The contents are a store of the texts: the slots say one manifest, which is current; it is a manifest of the texts,
--- and its partitions and tables stand for a state that holds of them.
-pub record IsStore (t : Texts) (c : Contents) (m : Manifest) (parts : List (List Born)) : Type 0 where
+-- The manifest is one of the texts, and their copies stand in files 2 and 3.
+pub record IsOfTexts (t : Texts) (c : Contents) (m : Manifest) : Type 0 where
   -- both texts can be read, so the names and the graph are those that a run reads
   pub good : AreGood t
-  -- a run finds this manifest, and each open slot could be read
-  pub slot : Slot
-  pub current : current_of c ≡ Ok (At slot m)
   pub fits : Fits m
   -- the copies are the texts, so that a run that goes on can compare them
   pub grammar_copy : IsCopy t.grammar (c 2) m.grammar_len
@@ -35,12 +31,23 @@ pub record IsStore (t : Texts) (c : Contents) (m : Manifest) (parts : List (List
   -- labels and vertices are those of the texts
   pub labels : m.labels ≡ names_of t
   pub vertices : m.vertices ≡ (graph t).vertices
+
+-- With this manifest as the current one the contents are a store of the texts: its partitions and tables stand for a state that holds of them. No slot is looked at.
+pub record IsStoreOf (t : Texts) (c : Contents) (m : Manifest) (parts : List (List Born)) : Type 0 where
+  pub texts : IsOfTexts t c m
   -- the partition files can be read
   pub listed : AreListed c m (normal t).fresh parts
   -- no edge is listed that isn't reached or twice, the given edges are there, and what is marked joined is joined
   pub holds : Holds (normal t) (graph t) (state_in m parts)
   -- the tables are exact, so that no dirty pair is overlooked
   pub tells : Tells (counts_of m.map) (joined_of m.marks) (newest_of m.marks) (state_in m parts)
+
+-- The contents are a store of the texts, by the manifest that is current.
+pub record IsStore (t : Texts) (c : Contents) (m : Manifest) (parts : List (List Born)) : Type 0 where
+  -- a run finds this manifest, and each open slot could be read
+  pub slot : Slot
+  pub current : current_of c ≡ Ok (At slot m)
+  pub rest : IsStoreOf t c m parts
 
 -- the manifest has no pair with work left
 abbrev pub IsDone : Manifest → Type 0

@@ -1,3 +1,5 @@
+pub mod Imported
 pub mod Left
 pub mod Listed
+pub mod Steps
 pub mod Texts

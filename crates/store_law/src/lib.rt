@@ -1,16 +1,24 @@
 //! What the contents of a disk list, when they list exactly the closure of two texts, and what stopped runs may leave.
 #![tactic(auto)]
 
-ghost use Rattle.std.specs.Prelude.{List, ℕ};
+ghost use Rattle.std.specs.Prelude.{◌≡◌, ◌≢◌, ◌≤◌, List, ℕ, Ok};
 ghost use Rattle.graph_words.specs.declared.types.Born.{Born as ABorn};
 ghost use Rattle.closing_machine.specs.State.{IsCut};
 ghost use Rattle.closing_machine.specs.Parts.{ArePartitions};
 ghost use Rattle.disk_model.specs.Disk.{Contents};
 ghost use Rattle.manifest.specs.declared.types.Manifest.{Manifest as AManifest};
 ghost use Rattle.manifest.specs.Spelling.{Fits};
+ghost use Rattle.manifest_switch.specs.declared.slot.Slot.{Slot as ASlot};
+ghost use Rattle.manifest_switch.specs.declared.slot.Slot.TheVariants.{Zero};
+ghost use Rattle.manifest_switch.specs.declared.slot.Found.TheVariants.{At};
+ghost use Rattle.manifest_switch.specs.Slots.{IsBlank, current_of};
+ghost use Rattle.manifest_switch.specs.Steps.{IsMade, Keeps, Stays, Switches};
 ghost use Rattle.store_law.specs.Texts.{Texts};
 ghost use Rattle.store_law.specs.Listed.{AreExact, AreListed, ends_of};
-ghost use Rattle.store_law.specs.Left.{IsDone, IsLeft, IsStore};
+ghost use Rattle.store_law.specs.Left.{IsDone, IsLeft, IsStore, IsStoreOf};
+ghost use Rattle.store_law.specs.Imported.{IsFresh, IsImported};
+ghost use Rattle.disk_files.specs.Files.{OnlyFile};
+ghost use Rattle.store_law.specs.Steps.{IsFree};
 
 /// The partitions that a manifest lists are partitions of its intervals, which cut the vertices.
 pub fn listed_are_partitions()
@@ -26,4 +34,42 @@ pub fn finished_stores_are_exact()
 /// A store of two texts is what a stopped run may leave.
 pub fn stores_are_left()
     ensures { (t : Texts) (c : Contents) (m : AManifest) (parts : List (List ABorn)) → IsStore t c m parts → IsLeft t c }
+{}
+
+/// A fresh store is a store, and what is one with its manifest becomes it by a switch to slot 0.
+pub fn imported_is_a_store()
+    ensures rest { (t : Texts) (limit : ℕ) (c : Contents) (m : AManifest) (parts : List (List ABorn)) → IsFresh t limit c m parts → IsStoreOf t c m parts }
+    ensures switched { (t : Texts) (seen c : Contents) (m : AManifest) (parts : List (List ABorn)) (limit : ℕ) → IsFresh t limit seen m parts → current_of c ≡ Ok (At Zero m) → ((f : ℕ) → f ≢ 0 → f ≢ 1 → c f ≡ seen f) → IsImported t limit c m parts }
+    ensures store { (t : Texts) (limit : ℕ) (c : Contents) (m : AManifest) (parts : List (List ABorn)) → IsImported t limit c m parts → IsStore t c m parts }
+{}
+
+/// The texts and the limit determine the intervals of a fresh store and what its partitions list.
+pub fn fresh_stores_are_alike()
+    ensures { (t : Texts) (limit : ℕ) (c d : Contents) (m n : AManifest) (xs ys : List (List ABorn)) → IsFresh t limit c m xs → IsFresh t limit d n ys → (ends_of m ≡ ends_of n) × (xs ≡ ys) }
+{}
+
+/// The files that a manifest names list one choice of partitions at most.
+pub fn bytes_tell_what_is_listed()
+    ensures { (c : Contents) (m : AManifest) (fresh : ℕ) (xs ys : List (List ABorn)) → Fits m → AreListed c m fresh xs → AreListed c m fresh ys → xs ≡ ys }
+{}
+
+/// A switch, and the closing of a slot beside the current one, leave a store of the texts where one was.
+///
+/// What a crash leaves of a store is the same store where what is current stays. Where the next
+/// manifest is current it is a store by that one, if what a read gave is one with it.
+pub fn a_switch_leaves_a_store()
+    ensures kept { (t : Texts) (d c : Contents) (m : AManifest) (parts : List (List ABorn)) → Stays d c → IsStore t d m parts → IsStore t c m parts }
+    ensures closed { (t : Texts) (s : ASlot) (d c : Contents) → Keeps s d c → IsLeft t d → IsLeft t c }
+    ensures stays { (t : Texts) (d c : Contents) → Stays d c → IsLeft t d → IsLeft t c }
+    ensures made { (t : Texts) (seen c : Contents) (m : AManifest) (parts : List (List ABorn)) → IsStoreOf t seen m parts → IsMade seen m c → IsStore t c m parts }
+    ensures step { (t : Texts) (d seen c : Contents) (m : AManifest) (parts : List (List ABorn)) → IsLeft t d → IsStoreOf t seen m parts → Switches seen m d c → IsLeft t c }
+{}
+
+/// A file that the current manifest doesn't name may change, and any but a slot where no slot is open.
+pub fn other_files_may_change()
+    ensures store { (t : Texts) (d c : Contents) (m : AManifest) (parts : List (List ABorn)) (f : ℕ) → IsFree m f → OnlyFile f d c → IsStore t d m parts → IsStore t c m parts }
+    ensures rest { (t : Texts) (d c : Contents) (m : AManifest) (parts : List (List ABorn)) (f : ℕ) → IsFree m f → OnlyFile f d c → IsStoreOf t d m parts → IsStoreOf t c m parts }
+    ensures current { (d c : Contents) (f : ℕ) → 2 ≤ f → OnlyFile f d c → current_of c ≡ current_of d }
+    ensures blank { (d c : Contents) (f : ℕ) → 2 ≤ f → OnlyFile f d c → IsBlank d → IsBlank c }
+    ensures left { (t : Texts) (d c : Contents) (f : ℕ) → 2 ≤ f → ((s : ASlot) (m : AManifest) → current_of d ≡ Ok (At s m) → IsFree m f) → OnlyFile f d c → IsLeft t d → IsLeft t c }
 {}

@@ -102,64 +102,14 @@ fn add(
     Ok(())
 }
 
-/// The same closing by a walk over a list that grows, without rows.
-fn plain_closing(
-    alloc: Global,
-    normal: &Normal,
-    edges: &[(u32, u16, u32)],
-) -> Result<Vec<Edge>, AllocError> {
-    let mut all = Vec::new(alloc);
-    for edge in edges {
-        all.push(edge_of(*edge))?;
-    }
-    for i in 0..10_000 {
-        if i >= all.len() {
-            break;
-        }
-        add_joins_of(normal, &mut all, i)?;
-    }
-    all.sort()?;
-    Ok(all)
-}
-
-/// Adds what an edge joins to with each edge up to it.
-fn add_joins_of(normal: &Normal, all: &mut Vec<Edge>, i: usize) -> Result<(), AllocError> {
-    for j in 0..all.len() {
-        if j > i || i >= all.len() {
-            break;
-        }
-        let (one, other) = (all[i], all[j]);
-        add_join(normal, all, one, other)?;
-        add_join(normal, all, other, one)?;
-    }
-    Ok(())
-}
-
-fn add_join(
-    normal: &Normal,
-    all: &mut Vec<Edge>,
-    first: Edge,
-    second: Edge,
-) -> Result<(), AllocError> {
-    if first.dst != second.src {
-        return Ok(());
-    }
-    for label in normal.pair(first.label, second.label) {
-        let edge = Edge {
-            src: first.src,
-            label: *label,
-            dst: second.dst,
-        };
-        if !all.contains(&edge) {
-            all.push(edge)?;
-        }
-    }
-    Ok(())
-}
-
 /// Whether the rows have just these edges.
-fn are_edges(rows: &Rows, edges: &[Edge]) -> bool {
-    rows.edges().len() == edges.len() && rows.edges().iter().zip(edges).all(|(b, e)| b.edge == *e)
+fn are_edges(rows: &Rows, edges: &[(u32, u16, u32)]) -> bool {
+    rows.edges().len() == edges.len()
+        && rows
+            .edges()
+            .iter()
+            .zip(edges)
+            .all(|(b, e)| b.edge == edge_of(*e))
 }
 
 /// How many edges have the birth.
@@ -171,6 +121,23 @@ fn born_at(rows: &Rows, birth: u64) -> usize {
 // S ) S and ) S. The loops of S at both vertices are given.
 const BRACKETS: [(u32, u16, u32); 5] = [(0, 0, 0), (0, 1, 0), (0, 2, 1), (1, 0, 1), (1, 2, 0)];
 
+// An opening bracket leads from 0 to 0 alone, so S leads from 0 to both vertices, and from 1 to 1 alone.
+const CLOSED_BRACKETS: [(u32, u16, u32); 13] = [
+    (0, 0, 0),
+    (0, 0, 1),
+    (0, 1, 0),
+    (0, 2, 1),
+    (0, 1000, 0),
+    (0, 1000, 1),
+    (0, 1001, 1),
+    (1, 0, 1),
+    (1, 2, 0),
+    (1, 1000, 0),
+    (1, 1000, 1),
+    (1, 1001, 0),
+    (1, 1001, 1),
+];
+
 #[test]
 fn brackets_close_in_five_rounds(rt: HostRuntime) -> Result<(), Fail> {
     let normal = normal_of(&rt, rt.alloc(), &[(0, &[]), (0, &[1, 0, 2, 0])])?;
@@ -181,9 +148,7 @@ fn brackets_close_in_five_rounds(rt: HostRuntime) -> Result<(), Fail> {
         for (birth, count) in [5, 2, 2, 1, 2, 1].into_iter().enumerate() {
             assert_eq!(rt; born_at(&rows, birth as u64), count);
         }
-        assert_eq!(rt; rows.edges().len(), 13);
-        let all = plain_closing(rt.alloc(), &normal, &BRACKETS)?;
-        assert!(rt; are_edges(&rows, &all));
+        assert!(rt; are_edges(&rows, &CLOSED_BRACKETS));
     }
     Ok(())
 }
@@ -210,48 +175,16 @@ fn a_loop_joins_with_itself(rt: HostRuntime) -> Result<(), Fail> {
     let edges = [(0, 1, 1), (1, 1, 1), (1, 1, 2)];
     let mut rows = rows_of(&rt, rt.alloc(), 1, 3, &edges)?;
     run_pair(rt.alloc(), &mut rows, &normal, 0, 1)?;
-    let all = plain_closing(rt.alloc(), &normal, &edges)?;
+    let all = [
+        (0, 0, 1),
+        (0, 0, 2),
+        (0, 1, 1),
+        (1, 0, 1),
+        (1, 0, 2),
+        (1, 1, 1),
+        (1, 1, 2),
+    ];
     assert!(rt; are_edges(&rows, &all));
     assert_eq!(rt; born_at(&rows, 1), 4);
-    Ok(())
-}
-
-/// Each edge of a small graph with a chance of one in `one_in`.
-fn random_edges(
-    alloc: Global,
-    seed: u32,
-    high: u32,
-    one_in: u32,
-) -> Result<Vec<(u32, u16, u32)>, AllocError>
-    requires { 0 < one_in }
-{
-    let mut state = seed;
-    let mut edges = Vec::new(alloc);
-    for place in 0..high.saturating_mul(high).saturating_mul(3) {
-        // Numerical Recipes' linear congruence, of which the high bits are taken.
-        state = state.wrapping_mul(1_664_525).wrapping_add(1_013_904_223);
-        if (state >> 16) % one_in == 0 && high > 0 {
-            let label = (place / high % 3) as u16;
-            edges.push((place / high / 3, label, place % high))?;
-        }
-    }
-    Ok(edges)
-}
-
-#[test]
-fn random_graphs_close_as_by_a_plain_walk(rt: HostRuntime) -> Result<(), Fail> {
-    let normal = normal_of(
-        &rt,
-        rt.alloc(),
-        &[(0, &[1, 2]), (1, &[0, 2, 0]), (2, &[0]), (1, &[2, 1, 2, 0])],
-    )?;
-    for seed in 0..6 {
-        let edges = random_edges(rt.alloc(), seed, 6, 9)?;
-        let mut rows = rows_of(&rt, rt.alloc(), seed, 6, edges.as_slice())?;
-        run_pair(rt.alloc(), &mut rows, &normal, 0, 1)?;
-        let all = plain_closing(rt.alloc(), &normal, edges.as_slice())?;
-        assert!(rt; all.len() > edges.len());
-        assert!(rt; are_edges(&rows, &all));
-    }
     Ok(())
 }

@@ -1,10 +1,10 @@
-use Rattle.std.proofs.Common.{◌≡◌, ℕ, List, sym, ◌∙◌, ap, subst, false}
-use Rattle.std.specs.Prelude.{Option, None}
+use Rattle.std.proofs.Common.{◌≡◌, ℕ, sym, subst, false}
+use Rattle.std.specs.Prelude.{Option}
 use Rattle.disk_model.specs.Disk.{Contents, Sets}
 use Rattle.disk_model.specs.Crash.{LeavesOnly, From}
 use Rattle.disk_model.specs.Run.{no_step, then_no_more, then_run}
 use Rattle.manifest_switch.specs.Answers.{AnswersOpen}
-use Rattle.manifest_switch.specs.Slots.{file_of, other, is_open, with_closed_gate, HasOnly}
+use Rattle.manifest_switch.specs.Slots.{file_of, other, is_open, with_closed_gate}
 use Rattle.manifest_switch.specs.Steps.{Keeps, MayClose}
 use Rattle.manifest_switch.specs.declared.slot.Slot.{Slot}
 use Rattle.manifest_switch.proofs.SlotLemmas.{keeps_refl, keeps_trans, current-here}

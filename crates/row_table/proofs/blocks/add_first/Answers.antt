@@ -2,7 +2,7 @@ use Rattle.std.proofs.Common.{◌≡◌, [], refl, sym, ◌∙◌}
 use Rattle.std.proofs.lemmas.Bool.{false≢true}
 use Rattle.normal_law.specs.NormalForm.{normal_form}
 use Rattle.partition_file.specs.Spelling.{row_of}
-use Rattle.row_table.proofs.BlockLemmas.{row_labels_of, first_counts, first_does_not, joins_none, is_nil}
+use Rattle.row_table.proofs.BlockLemmas.{row_labels_of, first_counts, first_does_not, joins_none, is_nil, seconds_in_row}
 use Rattle.row_table.proofs.blocks.add_first.Goals as goal
 
 pub add_row-requires-clause-row : goal.add_row-requires-clause-row
@@ -21,3 +21,6 @@ returns-then-is_empty c =
 pub returns : goal.returns
 returns c =
     first_counts (normal_form c.args.seconds.now.normal.now) c.args.seconds.now.every c.args.seconds.now.since c.args.first c.args.seconds.now.rows.now.edges c.args.blocks.now.items _ (c.if-not-counts.ensures.0 refl) (rw c.row-row.ensures.row at c.in_ok-add_row.ensures)
+
+pub add_row-requires-clause-labels : goal.add_row-requires-clause-labels
+add_row-requires-clause-labels c = rw c.row-row.ensures.row (seconds_in_row (normal_form c.args.seconds.now.normal.now) c.args.first.edge.label c.args.seconds.now.rows.now.edges c.args.first.edge.dst.0 c.args.labels.now c.requires)

@@ -5,7 +5,7 @@ use Rattle.row_table.proofs.BlockLemmas.{firsts_run}
 use Rattle.row_table.proofs.blocks.add_rows.Goals as goal
 
 pub add_firsts_if-requires-clause-labels : goal.add_firsts_if-requires-clause-labels
-add_firsts_if-requires-clause-labels c = rw c.deref.ensures.value c.in_ok-seconds.ensures
+add_firsts_if-requires-clause-labels c = rw c.deref.ensures.value c.in_ok-set_labels.ensures
 
 pub loop-start-preserved : goal.loop-start-preserved
 loop-start-preserved c =

@@ -1,11 +1,11 @@
 use Rattle.normal_law.specs.NormalForm.{normal_form}
 use Rattle.row_table.specs.Joined.{IsJoinOf}
-use Rattle.row_table.proofs.BlockLemmas.{row_labels_of}
+use Rattle.row_table.proofs.SearchLemmas.{row_ordered}
 use Rattle.row_table.proofs.JoinLemmas.{row_sources, vertex_appends}
 use Rattle.row_table.proofs.round.join_vertex.Goals as goal
 
-pub join_row-requires-clause-labels : goal.join_row-requires-clause-labels
-join_row-requires-clause-labels c = rw c.row.ensures.row (row_labels_of c.args.vertex.0 c.args.snapshot.now.rows.now.edges c.row.ensures.loaded.ordered)
+pub join_row-requires-clause-order : goal.join_row-requires-clause-order
+join_row-requires-clause-order c = rw c.row.ensures.row (row_ordered c.args.vertex.0 c.args.snapshot.now.rows.now.edges c.row.ensures.loaded.ordered)
 
 pub join_row-requires-clause-source : goal.join_row-requires-clause-source
 join_row-requires-clause-source c = rw c.row.ensures.row (row_sources c.args.vertex c.args.snapshot.now.rows.now.edges)

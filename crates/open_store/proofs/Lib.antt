@@ -1,0 +1,11 @@
+pub mod Tallies
+pub mod Tallying
+pub mod Places
+pub mod Streams
+pub mod Looking
+pub mod Parts
+pub mod Causes
+pub mod Freeness
+pub mod Differences
+pub mod Copies
+pub mod Slots

@@ -1,0 +1,20 @@
+use Rattle.std.proofs.Common.{◌≡◌, ℕ, List, refl, sym, ap, subst, ◌∙◌, arith}
+use Rattle.disk_model.specs.Disk.{Contents}
+use Rattle.open_store.specs.Store.{OpenStore}
+use Rattle.open_store.specs.Copy.{IsCopyRead}
+use Rattle.open_store.proofs.Copies.{next_copy}
+use Rattle.open_store.proofs.store.Store.commit.Goals as goal
+
+pub returns-clause-held : goal.returns-clause-held
+returns-clause-held g c = λ image now.
+    let D = g.D.Disk in
+    let L = g.met.D.Disk in
+    let tells = L.told c.switch.new.disk image now in
+    let switched = c.in_ok-slot.ensures.reads tells in
+    let same : image 2 ≡ D.seen c.args.disk.now 2 = c.in_ok-slot.ensures.synced image now 2 ∙ switched.others 2 (omega arith) (omega arith) in
+    let old = c.requires.held (D.seen c.args.disk.now) (L.honest c.args.disk.now tells) in
+    record {
+      only = c.in_ok-slot.ensures.done image now;
+      grammar = next_copy c.args.self.manifest c.args.next (D.seen c.args.disk.now 2) (image 2) _ same c.requires.grammar c.requires.labels
+          (subst (IsCopyRead c.args.self.manifest (D.seen c.args.disk.now 2)) (sym (ap (λ (x : OpenStore). x.rules) c.self.view_is)) old.grammar);
+    }

@@ -1,0 +1,84 @@
+//! Why a call of a store has no answer.
+ghost use Rattle.std.specs.Prelude.{◌≡◌};
+ghost use Rattle.open_store.specs.declared.fault.StoreFault.TheVariants.{DiskFault, NoMemory};
+ghost use Rattle.open_store.specs.Faults.{of_open, of_switch};
+
+use disk_model::{Failed, FormKind};
+use io_edge::{InputFile, InputKind};
+use manifest_switch::{OpenFault, SwitchFault};
+use std::alloc::{AllocError, AllocFailed};
+
+/// Why a call of a store has no answer. After a fault the disk is opened again.
+#[derive(Debug, Drop)]
+pub enum StoreFault {
+    /// A read of an input failed: the count of its name rose.
+    ReadFault,
+    /// A call of the disk failed: its count rose.
+    DiskFault,
+    /// An input's text has this first fault, in the line with this number, counted from 1.
+    InputFault {
+        file: InputFile,
+        line: u64,
+        kind: InputKind,
+    },
+    /// An input isn't the text of the store. They differ first at this place, in bytes from 0.
+    OtherInput {
+        file: InputFile,
+        place: u64,
+    },
+    /// The bytes of a file of the store break a rule, at this place, in bytes from 0.
+    BadStore {
+        file: u32,
+        place: u64,
+        kind: FormKind,
+    },
+    /// Memory was wanted.
+    NoMemory,
+}
+
+impl From<AllocError> for StoreFault {
+    ghost from_gives = { λ _ e. e ≡ NoMemory };
+
+    fn from(_e: AllocError) -> StoreFault {
+        StoreFault::NoMemory
+    }
+}
+
+impl<T: Drop> From<AllocFailed<T>> for StoreFault {
+    ghost from_gives = { λ _ e. e ≡ NoMemory };
+
+    fn from(_e: AllocFailed<T>) -> StoreFault {
+        StoreFault::NoMemory
+    }
+}
+
+impl From<Failed> for StoreFault {
+    ghost from_gives = { λ _ e. e ≡ DiskFault };
+
+    fn from(_e: Failed) -> StoreFault {
+        StoreFault::DiskFault
+    }
+}
+
+impl From<SwitchFault> for StoreFault {
+    ghost from_gives = { λ f e. e ≡ of_switch f };
+
+    fn from(fault: SwitchFault) -> StoreFault {
+        match fault {
+            SwitchFault::DiskFault => StoreFault::DiskFault,
+            SwitchFault::NoMemory => StoreFault::NoMemory,
+        }
+    }
+}
+
+impl From<OpenFault> for StoreFault {
+    ghost from_gives = { λ f e. e ≡ of_open f };
+
+    fn from(fault: OpenFault) -> StoreFault {
+        match fault {
+            OpenFault::DiskFault => StoreFault::DiskFault,
+            OpenFault::BadStore { file, place, kind } => StoreFault::BadStore { file, place, kind },
+            OpenFault::NoMemory => StoreFault::NoMemory,
+        }
+    }
+}

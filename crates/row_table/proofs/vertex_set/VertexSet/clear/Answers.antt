@@ -1,6 +1,0 @@
-use Rattle.std.proofs.Common.{◌+◌, arith}
-use Rattle.row_table.proofs.SetLemmas.{none_yet}
-use Rattle.row_table.proofs.vertex_set.VertexSet.clear.Goals as goal
-
-pub returns : goal.returns
-returns c = none_yet c.self.inside.marks.items c.self.inside.turn (c.self.inside.turn + 1) c.self.invariant.1 (omega arith)

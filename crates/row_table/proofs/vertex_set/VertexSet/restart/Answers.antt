@@ -1,5 +1,0 @@
-use Rattle.row_table.proofs.SetLemmas.{none_at_all}
-use Rattle.row_table.proofs.vertex_set.VertexSet.restart.Goals as goal
-
-pub returns : goal.returns
-returns c = rw c.clear.ensures.items (none_at_all 1)
