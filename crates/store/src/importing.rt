@@ -7,37 +7,12 @@ ghost use Rattle.manifest_switch.specs.Slots.{IsBlank};
 ghost use Rattle.open_store.specs.Store.{IsHeldAlone};
 ghost use Rattle.store.specs.Import.{HasImportCause, Imports, IsImportOf, IsNewStore};
 
-use crate::making::put_parts;
-use crate::source::{Source, copy_texts};
-use crate::tables::Tables;
+use crate::preparing::prepare;
 use disk_model::Disk;
-use intervals::Intervals;
 use io_edge::Inputs;
-use manifest::Manifest;
 use manifest_switch::switch;
 use open_store::{Store, StoreFault};
-use pair_sched::Marks;
-use std::alloc::{AllocError, Global};
-
-// The manifest of a new store.
-fn first_manifest(
-    alloc: Global,
-    source: &Source,
-    tables: Tables,
-) -> Result<Manifest, AllocError> {
-    let marks = Marks::zero(alloc, tables.map.len())?;
-    Ok(Manifest {
-        generation: 0,
-        round: 1,
-        vertices: source.copied.vertices,
-        grammar_len: source.grammar_len,
-        edges_len: source.copied.len,
-        labels: source.copied.labels.copy()?,
-        parts: tables.parts,
-        map: tables.map,
-        marks,
-    })
-}
+use std::alloc::Global;
 
 /// Makes a store of a grammar's text and an edge file, on a disk on which no slot is open.
 ///
@@ -63,11 +38,28 @@ pub fn import<I: Inputs, D: Disk>(
     grammar: &[u8],
     disk: &mut D,
     limit: u64,
-) -> Result<Store, StoreFault> {
-    let source = copy_texts(alloc, inputs, edges, grammar, disk)?;
-    let intervals = Intervals::from_degrees(alloc, &source.copied.degrees, limit)?;
-    let tables = put_parts(alloc, disk, &source, &intervals)?;
-    let manifest = first_manifest(alloc, &source, tables)?;
-    let slot = switch(alloc, disk, None, &manifest)?;
-    Ok(Store::new(slot, manifest, source.normal, intervals))
+) -> Result<Store, StoreFault>
+    requires good { grammar_fault grammar.now ≡ None }
+    requires blank { (c : Contents) → D.may_leave disk.old c → IsBlank c }
+
+    // The store is in slot 0, with the rules of the grammar, and no other slot is open in any image.
+    ensures store { IfOk result (IsNewStore grammar.now) }
+    ensures held { IfOk result (λ s. (c : Contents) → D.may_leave disk.new c → IsHeldAlone s c) }
+
+    // It is the fresh store of both texts.
+    ensures imported { IsTrue D.tells → IfOk result (λ s. IsImportOf grammar.now (I.told inputs.old edges.now) limit (D.seen disk.new) s.manifest) }
+    ensures synced { IfOk result (λ _. LeavesJust (D.seen disk.new) (D.may_leave disk.new)) }
+
+    // At each moment of a crash it is there as a whole or not at all.
+    ensures any_moment { LeavesOnly D.moment D.left_since disk.old disk.new (From (D.may_leave disk.old) (Imports grammar.now (I.told inputs.old edges.now) limit)) }
+
+    // Each fault has its cause.
+    ensures cause { IfErr result (HasImportCause grammar.now (I.told inputs.old edges.now) (IsTrue D.tells) (I.faults inputs.old edges.now) (I.faults inputs.new edges.now) (D.faults disk.old) (D.faults disk.new)) }
+    ensures kept { I.told inputs.new ≡ I.told inputs.old }
+    ensures others { (other : List ℕ) → I.faults inputs.old other ≤ I.faults inputs.new other }
+    ensures later { D.faults disk.old ≤ D.faults disk.new }
+{
+    let prepared = prepare(alloc, inputs, edges, grammar, disk, limit)?;
+    let slot = switch(alloc, disk, None, &prepared.manifest)?;
+    Ok(Store::new(slot, prepared.manifest, prepared.normal, prepared.intervals))
 }

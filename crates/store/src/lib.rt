@@ -4,6 +4,7 @@
 mod counting;
 mod importing;
 mod making;
+mod preparing;
 mod source;
 mod tables;
 
