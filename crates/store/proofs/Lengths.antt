@@ -15,13 +15,13 @@ total_onto : (b : ℕ) (ss : List (List ℕ)) → total (onto_first b ss) ≡ 1 
 total_onto b [] = refl
 total_onto b (s ∷ ss) = omega arith
 
+total_more : (b : ℕ) (bs : List ℕ) (t : Bool) → is_line_feed b ≡ t → total (segments bs) ≡ length bs → total (segments (b ∷ bs)) ≡ length (b ∷ bs)
+total_more b bs true e all = rw e (omega (arith, all))
+total_more b bs false e all = rw e (omega (arith, total_onto b (segments bs), all))
+
 total_segments : (text : List ℕ) → total (segments text) ≡ length text
 total_segments [] = refl
-total_segments (b ∷ bs) = go (is_line_feed b) refl
-  where
-    go : (t : Bool) → is_line_feed b ≡ t → total (segments (b ∷ bs)) ≡ length (b ∷ bs)
-    go true e = rw e (omega (arith, total_segments bs))
-    go false e = rw e (omega (arith, total_onto b (segments bs), total_segments bs))
+total_segments (b ∷ bs) = total_more b bs (is_line_feed b) refl (total_segments bs)
 
 some_none : {T : Type 0} (x : T) (o : Option T) → o ≡ None → o ≡ Some x → ⊥
 some_none x o p q = absurd (cc)

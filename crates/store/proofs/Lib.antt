@@ -4,3 +4,7 @@ pub mod Parts
 pub mod Covering
 pub mod Fitting
 pub mod Opening
+pub mod Causes
+pub mod Images
+pub mod Building
+pub mod Counts

@@ -23,6 +23,7 @@ use Rattle.disk_model.specs.Disk.{Contents}
 use Rattle.intervals.specs.Bounds.{IsCut, LiesIn, vertices_of}
 use Rattle.intervals.specs.DegreeCut.{IsCutByDegree}
 use Rattle.partition_file.specs.declared.types.Format.TheVariants.{First}
+use Rattle.partition_file.specs.Spelling.{Fits as PartFits}
 use Rattle.dest_map.specs.Table.{counts_of}
 use Rattle.pair_sched.specs.Marks.{joined_of, newest_of}
 use Rattle.manifest.specs.declared.types.PartEntry.{PartEntry}
@@ -30,7 +31,7 @@ use Rattle.manifest.specs.declared.types.Manifest.{Manifest}
 use Rattle.manifest.specs.Spelling.{Fits}
 use Rattle.import_text.specs.Given.{AreGiven}
 use Rattle.store_law.specs.Texts.{Texts, graph, names_of, normal, rules}
-use Rattle.store_law.specs.Listed.{AreListed, ends_of, part_file, part_of, state_in}
+use Rattle.store_law.specs.Listed.{AreListed, ends_of, expect_of, part_file, part_of, state_in}
 use Rattle.store_law.specs.Left.{IsOfTexts}
 use Rattle.store_law.specs.Imported.{AreDegrees, IsFresh}
 use Rattle.store.specs.declared.source.Source.{Source}
@@ -120,7 +121,7 @@ module _ (grammar : List ℕ) (told : Option (List ℕ)) (tells : Type 0) (tell 
                 rw (ends_in, file_at i within) (First, (b.put tell i within).spelled);
             fits = λ i low.
                 let within : i < length ends = omega (arith, low, sizes) in
-                rw (ends_in, first.vertices, first.round, first.labels, ← normal_is) (b.fits i within);
+                subst (λ (n : Normal). PartFits (expect_of m n.fresh i) (part_of m i (get_or b.parts i []))) normal_is (rw (ends_in, first.vertices, first.round, first.labels) (b.fits i within));
           }
 
       opening : IsOpening (normal texts) (graph texts) (state_in m b.parts)
