@@ -59,10 +59,10 @@ module _ (s : Source) (ends : List ℕ) (tells : Type 0) (c d : Contents) (i : �
   same_graph tell = ap (λ (l : List ℕ). graph_with s.copied.vertices (edges_of s.copied.labels l)) (same_copies tell).edges
 
   put_before : tells → (k : ℕ) → k < i → IsPut s ends d k (get_or b.parts k [])
-  put_before tell k low =
-      let was = b.put tell k low in
+  put_before tell k less =
+      let was = b.put tell k less in
       record {
-        spelled = (sets tell).others (4 + k) (omega (arith, low)) ∙ was.spelled;
+        spelled = (sets tell).others (4 + k) (omega (arith, less)) ∙ was.spelled;
         given = subst (λ (g : Graph). AreGiven (normal_form s.normal) g (low ends k) (high ends k) (get_or b.parts k [])) (sym (same_graph tell)) was.given;
       }
 

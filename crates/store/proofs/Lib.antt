@@ -8,3 +8,5 @@ pub mod Causes
 pub mod Images
 pub mod Building
 pub mod Counts
+pub mod Preparing
+pub mod Switching

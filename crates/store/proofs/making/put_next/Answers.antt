@@ -1,5 +1,7 @@
 use Rattle.std.proofs.Common.{◌≡◌, ◌+◌, ◌++◌, ◌∷◌, ◌∙◌, [], ℕ, List, arith, ap, subst}
 use Rattle.std.specs.Prelude.{IsTrue}
+use Rattle.graph_words.specs.declared.types.Born.{Born as ABorn}
+use Rattle.dest_map.specs.Counts.{IsCountsOf}
 use Rattle.intervals.proofs.BoundsLemmas.{high_within}
 use Rattle.manifest.specs.declared.types.PartEntry.{PartEntry}
 use Rattle.partition_file.specs.declared.types.Format.TheVariants.{First}
@@ -23,6 +25,5 @@ returns-clause-built g c =
     (fits_at s ends i lo hi p c.bounds-lo.ensures.low c.bounds-lo.ensures.high c.in_ok-part.ensures.fits)
     (λ tell. given_at s ends (D.seen c.args.disk.now) i lo hi p.edges c.bounds-lo.ensures.low c.bounds-lo.ensures.high (c.in_ok-part.ensures.given tell))
     (c.in_ok-push.ensures.ok ∙ ap (λ (h : ℕ). c.args.tables.now.parts ++ record { hi = h; file = 4 + i } ∷ []) c.bounds-lo.ensures.high)
-    ?
-    ?
+    (λ before is. subst (λ (l : List ABorn). IsCountsOf ends (before ++ l) c.count_edges.new.map) c.edges.ensures.edges (c.count_edges.ensures.counts before is)) c.count_edges.ensures.others
     (λ tell. sets_at (4 + i) c.deref.result.now (spelling First p) (D.seen c.given_part.new.disk) (D.seen c.args.disk.now) (D.seen c.rewrite.new.disk) c.in_ok-part.ensures.looks.same_seen (c.deref.ensures.value ∙ c.in_ok-bytes.ensures) (c.in_ok-rewrite.ensures.written tell))

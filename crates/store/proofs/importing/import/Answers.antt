@@ -1,0 +1,32 @@
+use Rattle.std.proofs.Common.{◌≡◌, ◌∙◌, ap, subst}
+use Rattle.std.specs.Prelude.{IsTrue}
+use Rattle.store.proofs.Switching.{blank_then, held_alone, import_of, imports_then}
+use Rattle.store.proofs.importing.import.Goals as goal
+
+pub switch-requires-clause-blank : goal.switch-requires-clause-blank
+switch-requires-clause-blank g c = λ none image.
+    let D = g.D.Disk in
+    let L = g.met.D.Disk in
+    blank_then D.seen D.moment D.left_since D.may_leave L.counts_now L.only_now c.args.disk.now c.prepare.new.disk c.prepare.ensures.any_moment c.requires.blank image
+
+pub returns-in_err-slot-clause-any_moment : goal.returns-in_err-slot-clause-any_moment
+returns-in_err-slot-clause-any_moment g c =
+    let D = g.D.Disk in
+    let I = g.I.Inputs in
+    let L = g.met.D.Disk in
+    imports_then D.seen D.moment D.left_since D.may_leave L.counts_now L.only_now c.args.disk.now c.prepare.new.disk c.switch.new.disk c.args.grammar.now (I.told c.args.inputs.now c.args.edges.now) c.args.limit (IsTrue D.tells) c.in_ok-prepared.prepared L.told c.in_ok-prepared.ensures.prepared c.prepare.ensures.any_moment
+    c.switch.ensures.any_moment
+
+pub returns-clause-held : goal.returns-clause-held
+returns-clause-held g c = ?
+
+pub returns-clause-imported : goal.returns-clause-imported
+returns-clause-imported g c = ?
+
+pub returns-clause-any_moment : goal.returns-clause-any_moment
+returns-clause-any_moment g c =
+    let D = g.D.Disk in
+    let I = g.I.Inputs in
+    let L = g.met.D.Disk in
+    imports_then D.seen D.moment D.left_since D.may_leave L.counts_now L.only_now c.args.disk.now c.prepare.new.disk c.switch.new.disk c.args.grammar.now (I.told c.args.inputs.now c.args.edges.now) c.args.limit (IsTrue D.tells) c.in_ok-prepared.prepared L.told c.in_ok-prepared.ensures.prepared c.prepare.ensures.any_moment
+    c.switch.ensures.any_moment
