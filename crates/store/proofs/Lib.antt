@@ -8,5 +8,5 @@ pub mod Causes
 pub mod Images
 pub mod Building
 pub mod Counts
-pub mod Preparing
+pub mod Readying
 pub mod Switching

@@ -2,7 +2,7 @@ use Rattle.std.proofs.Common.{◌≡◌, ◌∙◌, List, ℕ, subst}
 use Rattle.std.specs.Prelude.{IsTrue}
 use Rattle.intervals.specs.DegreeCut.{IsCutByDegree}
 use Rattle.store.proofs.Images.{further}
-use Rattle.store.proofs.Preparing.{is_prepared, may_put, source_later}
+use Rattle.store.proofs.Readying.{is_prepared, may_put, source_later}
 use Rattle.store.proofs.preparing.prepare.Goals as goal
 
 pub put_parts-requires : goal.put_parts-requires
