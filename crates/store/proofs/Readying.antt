@@ -1,6 +1,6 @@
 -- What was copied may be put, and what was put is prepared.
 use Rattle.std.proofs.Common.{◌≡◌, ℕ, ◌<◌, ◌≤◌, List, [], ◌++◌, length, take, Option, Some, refl, sym, ap, ◌∙◌, subst, arith}
-use Rattle.std.specs.Prelude.{All}
+use Rattle.std.specs.Prelude.{All, map}
 use Rattle.std.specs.List.{flat_map}
 use Rattle.std.proofs.Math.Seq.{take-append_seam}
 use Rattle.std.proofs.lemmas.List.Elements.{All-weaker}
@@ -14,6 +14,7 @@ use Rattle.grammar_norm.specs.GrammarText.{grammar_names, rule_fault}
 use Rattle.normal_form.proofs.NormalLemmas.{fresh_few}
 use Rattle.disk_model.specs.Disk.{Contents}
 use Rattle.intervals.specs.DegreeCut.{IsCutByDegree}
+use Rattle.manifest.specs.declared.types.PartEntry.{PartEntry}
 use Rattle.manifest.specs.declared.types.Manifest.{Manifest}
 use Rattle.import_text.specs.Reading.{IsGoodCopy}
 use Rattle.store_law.specs.Listed.{ends_of}
@@ -21,9 +22,9 @@ use Rattle.store.specs.declared.source.Source.{Source}
 use Rattle.store.specs.declared.tables.Tables.{Tables}
 use Rattle.store.specs.declared.preparing.Prepared.{Prepared}
 use Rattle.store.specs.Making.{IsBuilt, IsFirst, IsPrepared, IsSource, MayPut, SameTexts}
-use Rattle.store.proofs.Fitting.{first_fits}
+use Rattle.store.proofs.Fitting.{ends_of_parts, first_fits}
 use Rattle.store.proofs.Lengths.{within_limit}
-use Rattle.store.proofs.Opening.{ends_in, first_fresh}
+use Rattle.store.proofs.Opening.{first_fresh}
 
 -- the copies are still those of the texts
 pub source_later : (grammar : List ℕ) (told : Option (List ℕ)) (tells : Type 0) (c d : Contents) (s : Source) → IsSource grammar told tells c s → (tells → SameTexts c d) → IsSource grammar told tells d s
@@ -87,7 +88,7 @@ module _ (grammar : List ℕ) (told : Option (List ℕ)) (tells : Type 0) (c : C
         begins = ap (λ (l : List (List ℕ)). take (length src.names) l) first.labels ∙ begins;
         grammar_len = first.grammar_len ∙ src.grammar_len;
         grammar_copy = src.grammar_copy;
-        ends = sym (ends_in grammar told tells c s src ends t by_degree.cut whole b m first fits);
+        ends = sym (ap (λ (l : List PartEntry). map (λ p. p.hi) l) first.parts ∙ ends_of_parts s ends tells c t by_degree.cut whole b);
         text = src.text;
         is_file = src.is_file;
         parts = b.parts;
