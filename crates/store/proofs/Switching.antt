@@ -7,6 +7,8 @@ use Rattle.grammar_norm.specs.GrammarText.{ReadsGrammar}
 use Rattle.disk_model.specs.Disk.{Contents}
 use Rattle.disk_model.specs.Crash.{From, LeavesOnly}
 use Rattle.disk_model.specs.Run.{at_end, then_run}
+use Rattle.manifest.specs.declared.types.Manifest.{Manifest}
+use Rattle.manifest_switch.specs.declared.slot.Slot.{Slot}
 use Rattle.manifest_switch.specs.declared.slot.Slot.TheVariants.{Zero}
 use Rattle.manifest_switch.specs.Slots.{HasOnly, IsBlank, chosen, current_of, is_open, open_body}
 use Rattle.manifest_switch.specs.Steps.{IsAmid, IsMade, IsSwitched, Switches}
@@ -42,14 +44,18 @@ module _ (grammar : List ℕ) (told : Option (List ℕ)) (limit : ℕ) (tells : 
   import_step d m c tell beside (inl stays) = inl (stays.same ∙ same_current d m beside)
   import_step d m c tell beside (inr made) = inr (made_fresh c tell made)
 
-  pub import_of : (c : Contents) → tells → IsSwitched Zero p.manifest seen c → IsImportOf grammar told limit c p.manifest
-  import_of c tell switched =
+  import_in : (c : Contents) → tells → IsSwitched Zero p.manifest seen c → IsImportOf grammar told limit c p.manifest
+  import_in c tell switched =
       record {
         text = is.text;
         is_file = is.is_file;
         parts = is.parts;
         imported = fresh_switched (texts_of grammar is.text) seen c p.manifest is.parts limit (is.fresh tell) (alone_law Zero p.manifest c switched.only) switched.others;
       }
+
+  pub import_of : (s : OpenStore) (slot : Slot) (c : Contents) → s ≡ record { slot = slot; manifest = p.manifest; rules = p.normal; ends = p.intervals } → slot ≡ Zero → tells → IsSwitched slot p.manifest seen c → IsImportOf grammar told limit c s.manifest
+  import_of s slot c made zero tell switched =
+      subst (λ (m : Manifest). IsImportOf grammar told limit c m) (sym (ap (λ (o : OpenStore). o.manifest) made)) (import_in c tell (subst (λ (z : Slot). IsSwitched z p.manifest seen c) zero switched))
 
   copy_read : (file : List ℕ) → file ≡ grammar → IsCopyRead p.manifest file p.normal
   copy_read file same =
@@ -60,8 +66,8 @@ module _ (grammar : List ℕ) (told : Option (List ℕ)) (limit : ℕ) (tells : 
         begins = is.begins;
       }
 
-  pub held_alone : (s : OpenStore) (new c : Contents) → s ≡ record { slot = Zero; manifest = p.manifest; rules = p.normal; ends = p.intervals } → tells → HasOnly Zero p.manifest c → c 2 ≡ new 2 → IsSwitched Zero p.manifest seen new → IsHeldAlone s c
-  held_alone s new c made tell only same switched =
+  pub held_alone : (s : OpenStore) (slot : Slot) (new c : Contents) → s ≡ record { slot = slot; manifest = p.manifest; rules = p.normal; ends = p.intervals } → tells → HasOnly slot p.manifest c → c 2 ≡ new 2 → IsSwitched slot p.manifest seen new → IsHeldAlone s c
+  held_alone s slot new c made tell only same switched =
       subst (λ (o : OpenStore). IsHeldAlone o c) (sym made) (record { only = only; grammar = copy_read (c 2) (same ∙ switched.others 2 (omega arith) (omega arith) ∙ is.grammar_copy tell) })
 
 module _ {D : Type 0} (seen : D → Contents) (moment : D → ℕ) (left_since : D → ℕ → Contents → Type 0) (images : D → Contents → Type 0) (counts_now : (x : D) (t : ℕ) (c : Contents) → t ≤ moment x → images x c → left_since x t c)

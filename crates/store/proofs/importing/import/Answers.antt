@@ -1,4 +1,4 @@
-use Rattle.std.proofs.Common.{◌≡◌, ◌∙◌, ap, subst}
+use Rattle.std.proofs.Common.{◌≡◌}
 use Rattle.std.specs.Prelude.{IsTrue}
 use Rattle.store.proofs.Switching.{blank_then, held_alone, import_of, imports_then}
 use Rattle.store.proofs.importing.import.Goals as goal
@@ -18,10 +18,20 @@ returns-in_err-slot-clause-any_moment g c =
     c.switch.ensures.any_moment
 
 pub returns-clause-held : goal.returns-clause-held
-returns-clause-held g c = ?
+returns-clause-held g c = λ image there.
+    let D = g.D.Disk in
+    let I = g.I.Inputs in
+    let tell = g.met.D.Disk.told c.switch.new.disk image there in
+    let e = c.in_ok-slot.ensures in
+    held_alone c.args.grammar.now (I.told c.args.inputs.now c.args.edges.now) c.args.limit (IsTrue D.tells) (D.seen c.prepare.new.disk) c.in_ok-prepared.prepared c.in_ok-prepared.ensures.prepared c.new.result c.in_ok-slot.slot (D.seen c.switch.new.disk) image c.new.ensures tell (e.done image there)
+    (e.synced image there 2) (e.reads tell)
 
 pub returns-clause-imported : goal.returns-clause-imported
-returns-clause-imported g c = ?
+returns-clause-imported g c = λ tell.
+    let D = g.D.Disk in
+    let I = g.I.Inputs in
+    let e = c.in_ok-slot.ensures in
+    import_of c.args.grammar.now (I.told c.args.inputs.now c.args.edges.now) c.args.limit (IsTrue D.tells) (D.seen c.prepare.new.disk) c.in_ok-prepared.prepared c.in_ok-prepared.ensures.prepared c.new.result c.in_ok-slot.slot (D.seen c.switch.new.disk) c.new.ensures e.slot tell (e.reads tell)
 
 pub returns-clause-any_moment : goal.returns-clause-any_moment
 returns-clause-any_moment g c =
