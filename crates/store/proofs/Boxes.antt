@@ -1,7 +1,6 @@
 -- Edges in order from one interval into another are no more than fit there.
-use Rattle.std.proofs.Common.{◌≡◌, ℕ, ◌+◌, ◌-◌, ◌*◌, ◌<◌, ◌≤◌, ◌==◌, ◌&&◌, Bool, true, List, length, arith, inl, inr, sym, ap, ◌∙◌, subst}
-use Rattle.std.specs.Prelude.{All, AllPairs, Contains, count_by, filter}
-use Rattle.std.proofs.lemmas.Bool.Decides.{nat_tests}
+use Rattle.std.proofs.Common.{◌≡◌, ℕ, ◌+◌, ◌-◌, ◌*◌, ◌<◌, ◌≤◌, Bool, true, List, length, arith, inl, inr, subst}
+use Rattle.std.specs.Prelude.{All, Contains, count_by, filter}
 use Rattle.std.proofs.lemmas.List.Elements.{All-contains, All-filter, filter_passes}
 use Rattle.std.proofs.lemmas.List.Kept.{AllPairs-filter}
 use Rattle.std.proofs.lemmas.List.Sums.{length-filter}

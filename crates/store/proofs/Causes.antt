@@ -1,7 +1,6 @@
 -- The causes of faults that a call hands on.
-use Rattle.std.proofs.Common.{◌≡◌, ℕ, ◌≤◌, List, Some, refl, sym, ap, subst, arith}
+use Rattle.std.proofs.Common.{◌≡◌, ℕ, ◌≤◌, List, Some, refl, sym, subst, arith}
 use Rattle.std.specs.Prelude.{Err, IsErrAnd, Ok, Option, Result}
-use Rattle.io_edge.specs.declared.kinds.InputFile.TheVariants.{Edges, Grammar, Source}
 use Rattle.io_edge.specs.declared.kinds.InputKind.{InputKind}
 use Rattle.edge_text.specs.EdgesText.{edges_fault}
 use Rattle.grammar_norm.specs.GrammarText.{grammar_names}

@@ -1,9 +1,9 @@
 -- Entries whose ends are those of intervals cover the vertices.
-use Rattle.std.proofs.Common.{◌≡◌, ℕ, zero, suc, ◌-◌, ◌<◌, List, [], ◌∷◌, length, get_or, refl, sym, ap, ◌∙◌, subst, arith}
+use Rattle.std.proofs.Common.{◌≡◌, ℕ, zero, suc, ◌-◌, ◌<◌, List, [], ◌∷◌, length, get_or, refl, ap, ◌∙◌, arith}
 use Rattle.std.specs.Prelude.{map}
 use Rattle.std.proofs.lemmas.List.{ext_get_or, length-map}
 use Rattle.closing_machine.specs.Machine.{high, low}
-use Rattle.intervals.specs.Bounds.{IsCut, low_of, high_of, vertices_of}
+use Rattle.intervals.specs.Bounds.{IsCut, low_of, vertices_of}
 use Rattle.manifest.specs.declared.types.PartEntry.{PartEntry}
 use Rattle.manifest.specs.Rules.{widths}
 use Rattle.manifest.specs.Spelling.{Cover}

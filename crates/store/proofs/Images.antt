@@ -1,7 +1,7 @@
 -- Steps that leave both slots as they were.
-use Rattle.std.proofs.Common.{◌≡◌, ℕ, ◌≤◌, ◌∙◌, refl, arith}
+use Rattle.std.proofs.Common.{ℕ, ◌≤◌, ◌∙◌, refl, arith}
 use Rattle.disk_model.specs.Disk.{Contents}
-use Rattle.disk_model.specs.Crash.{Elapses, From, LeavesOnly, NoMore}
+use Rattle.disk_model.specs.Crash.{From, LeavesOnly}
 use Rattle.disk_model.specs.Run.{no_step, then_no_more, then_run}
 use Rattle.disk_files.specs.Files.{OnlyFile}
 use Rattle.manifest_switch.specs.Looks.{OnlyLooks}

@@ -1,12 +1,11 @@
 -- What the partitions list is what a closing begins with, and the contents are a fresh store.
-use Rattle.std.proofs.Common.{◌≡◌, ℕ, ◌+◌, ◌<◌, ◌≤◌, ◌==◌, Bool, true, false, List, [], ◌∷◌, length, get_or, take, refl, sym, ap, ◌∙◌, subst, arith}
+use Rattle.std.proofs.Common.{◌≡◌, ℕ, ◌+◌, ◌<◌, ◌==◌, List, [], ◌∷◌, length, get_or, take, refl, sym, ap, ◌∙◌, subst, arith}
 use Rattle.std.specs.Prelude.{All, Contains, Option, count_by, filter, map}
 use Rattle.std.specs.List.{flat_map}
 use Rattle.std.proofs.lemmas.List.{take_all}
 use Rattle.std.proofs.lemmas.List.Elements.{All-contains, All-filter, All-head, All-tail}
 use Rattle.graph_words.specs.declared.types.Born.{Born}
 use Rattle.graph_words.specs.declared.types.Edge.{Edge}
-use Rattle.graph_words.specs.declared.types.Rule.{Rule}
 use Rattle.graph_words.specs.Reach.{Graph, edge, graph_with}
 use Rattle.graph_words.specs.Text.{said, third}
 use Rattle.io_edge.specs.Lines.{lines}
@@ -20,7 +19,7 @@ use Rattle.closing_machine.specs.Parts.{all_edges}
 use Rattle.closing_machine.specs.Rounds.{born}
 use Rattle.closing_machine.specs.Tells.{Tells}
 use Rattle.disk_model.specs.Disk.{Contents}
-use Rattle.intervals.specs.Bounds.{IsCut, LiesIn, vertices_of}
+use Rattle.intervals.specs.Bounds.{IsCut, vertices_of}
 use Rattle.intervals.specs.DegreeCut.{IsCutByDegree}
 use Rattle.partition_file.specs.declared.types.Format.TheVariants.{First}
 use Rattle.partition_file.specs.Spelling.{Fits as PartFits}

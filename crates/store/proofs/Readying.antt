@@ -1,6 +1,6 @@
 -- What was copied may be put, and what was put is prepared.
-use Rattle.std.proofs.Common.{◌≡◌, ℕ, ◌<◌, ◌≤◌, List, [], ◌++◌, length, take, Option, Some, refl, sym, ap, ◌∙◌, subst, arith}
-use Rattle.std.specs.Prelude.{All, map}
+use Rattle.std.proofs.Common.{◌≡◌, ℕ, ◌<◌, List, length, take, Option, sym, ap, ◌∙◌, subst, arith}
+use Rattle.std.specs.Prelude.{map}
 use Rattle.std.specs.List.{flat_map}
 use Rattle.std.proofs.Math.Seq.{take-append_seam}
 use Rattle.std.proofs.lemmas.List.Elements.{All-weaker}
@@ -17,10 +17,8 @@ use Rattle.intervals.specs.DegreeCut.{IsCutByDegree}
 use Rattle.manifest.specs.declared.types.PartEntry.{PartEntry}
 use Rattle.manifest.specs.declared.types.Manifest.{Manifest}
 use Rattle.import_text.specs.Reading.{IsGoodCopy}
-use Rattle.store_law.specs.Listed.{ends_of}
 use Rattle.store.specs.declared.source.Source.{Source}
 use Rattle.store.specs.declared.tables.Tables.{Tables}
-use Rattle.store.specs.declared.preparing.Prepared.{Prepared}
 use Rattle.store.specs.Making.{IsBuilt, IsFirst, IsPrepared, IsSource, MayPut, SameTexts}
 use Rattle.store.proofs.Fitting.{ends_of_parts, first_fits}
 use Rattle.store.proofs.Lengths.{within_limit}

@@ -1,9 +1,8 @@
-use Rattle.std.proofs.Common.{◌≡◌, ◌+◌, ◌++◌, ◌∙◌, ℕ, List, length, take, get_or, sym, ap, subst, arith}
+use Rattle.std.proofs.Common.{◌++◌, ◌∙◌, List, subst, arith}
 use Rattle.std.proofs.lemmas.List.{take_all}
 use Rattle.graph_words.specs.declared.types.Born.{Born as ABorn}
 use Rattle.dest_map.specs.Counts.{IsCountsOf}
 use Rattle.dest_map.specs.Table.{counts_of}
-use Rattle.open_store.proofs.Places.{place_of_lies}
 use Rattle.store.proofs.Counts.{counted_more, raised_few, raised_other}
 use Rattle.store.proofs.counting.count_edges.Goals as goal
 

@@ -1,4 +1,3 @@
-use Rattle.std.proofs.Common.{◌≡◌}
 use Rattle.std.specs.Prelude.{IsTrue}
 use Rattle.store.proofs.Switching.{blank_then, held_alone, import_of, imports_then}
 use Rattle.store.proofs.importing.import.Goals as goal

@@ -1,9 +1,8 @@
-use Rattle.std.proofs.Common.{◌≡◌, ◌+◌, ◌++◌, ◌∷◌, ◌∙◌, [], ℕ, List, arith, ap, subst}
+use Rattle.std.proofs.Common.{◌+◌, ◌++◌, ◌∷◌, ◌∙◌, [], ℕ, List, arith, ap, subst}
 use Rattle.std.specs.Prelude.{IsTrue}
 use Rattle.graph_words.specs.declared.types.Born.{Born as ABorn}
 use Rattle.dest_map.specs.Counts.{IsCountsOf}
 use Rattle.intervals.proofs.BoundsLemmas.{high_within}
-use Rattle.manifest.specs.declared.types.PartEntry.{PartEntry}
 use Rattle.partition_file.specs.declared.types.Format.TheVariants.{First}
 use Rattle.partition_file.specs.Spelling.{spelling}
 use Rattle.store.proofs.Building.{built_more, fits_at, given_at, sets_at}

@@ -1,4 +1,4 @@
-use Rattle.std.proofs.Common.{◌≡◌, ◌∙◌, sym, arith, refl}
+use Rattle.std.proofs.Common.{◌∙◌, sym, arith, refl}
 use Rattle.std.specs.Prelude.{IsTrue}
 use Rattle.store.proofs.Building.{built_none}
 use Rattle.store.proofs.Images.{further, nothing}

@@ -1,4 +1,4 @@
-use Rattle.std.proofs.Common.{◌≡◌, ◌∙◌, List, ℕ, subst}
+use Rattle.std.proofs.Common.{List, ℕ, subst}
 use Rattle.std.specs.Prelude.{IsTrue}
 use Rattle.intervals.specs.DegreeCut.{IsCutByDegree}
 use Rattle.store.proofs.Images.{further}
