@@ -29,7 +29,7 @@ use Rattle.manifest.specs.declared.types.PartEntry.{PartEntry}
 use Rattle.manifest.specs.declared.types.Manifest.{Manifest}
 use Rattle.manifest.specs.Spelling.{Fits}
 use Rattle.import_text.specs.Given.{AreGiven}
-use Rattle.store_law.specs.Texts.{Texts, graph, names_of, normal, rules}
+use Rattle.store_law.specs.Texts.{AreGood, Texts, graph, names_of, normal, rules}
 use Rattle.store_law.specs.Listed.{AreListed, ends_of, expect_of, part_file, part_of, state_in}
 use Rattle.store_law.specs.Left.{IsOfTexts}
 use Rattle.store_law.specs.Imported.{AreDegrees, IsFresh}
@@ -53,7 +53,7 @@ no_births (b ∷ bs) all =
     let here : b.birth ≡ 0 = All-head (λ (x : Born). x.birth ≡ 0) b bs all in
     rw (here, no_births bs (All-tail (λ (x : Born). x.birth ≡ 0) b bs all)) refl
 
-module _ (grammar : List ℕ) (told : Option (List ℕ)) (tells : Type 0) (tell : tells) (c : Contents) (s : Source) (src : IsSource grammar told tells c s) where
+module _ (grammar : List ℕ) (told : Option (List ℕ)) (tells : Type 0) (c : Contents) (s : Source) (src : IsSource grammar told tells c s) where
   abbrev texts : Texts
   texts = texts_of grammar src.text
 
@@ -72,9 +72,6 @@ module _ (grammar : List ℕ) (told : Option (List ℕ)) (tells : Type 0) (tell 
   pub vertices_are : s.copied.vertices ≡ (graph texts).vertices
   vertices_are = sym src.few.each ∙ src.degrees_are.count ∙ ap vertex_count_of edges_are
 
-  pub graph_is : graph_in s c ≡ graph texts
-  graph_is = ap (λ (t : List ℕ). graph_with s.copied.vertices (edges_of s.copied.labels t)) (src.edges_copy tell) ∙ ap (λ (l : List (List ℕ)). graph_with s.copied.vertices (edges_of l src.text)) labels_are ∙ ap (λ (n : ℕ). graph_with n (edges_of (names_of texts) src.text)) vertices_are
-
   pub degrees_of : AreDegrees (graph texts) s.copied.degrees.items
   degrees_of =
       record {
@@ -82,11 +79,17 @@ module _ (grammar : List ℕ) (told : Option (List ℕ)) (tells : Type 0) (tell 
         each = λ v low. src.degrees_are.each v ∙ ap (λ (es : List Edge). count_by (λ e. e.src.0 == v) es) edges_are;
       }
 
-  module _ (ends : List ℕ) (t : Tables) (cut : IsCut ends) (whole : vertices_of ends ≡ s.copied.vertices) (b : IsBuilt s ends tells c (length ends) t) where
+  pub good_texts : AreGood texts
+  good_texts = record { grammar = src.grammar_reads.whole; edges = src.reads.whole }
+
+  pub graph_is : tells → graph_in s c ≡ graph texts
+  graph_is tell = ap (λ (t : List ℕ). graph_with s.copied.vertices (edges_of s.copied.labels t)) (src.edges_copy tell) ∙ ap (λ (l : List (List ℕ)). graph_with s.copied.vertices (edges_of l src.text)) labels_are ∙ ap (λ (n : ℕ). graph_with n (edges_of (names_of texts) src.text)) vertices_are
+
+  module _ (tell : tells) (ends : List ℕ) (t : Tables) (cut : IsCut ends) (whole : vertices_of ends ≡ s.copied.vertices) (b : IsBuilt s ends tells c (length ends) t) where
     given_at : (k : ℕ) → k < length ends → AreGiven (normal texts) (graph texts) (low ends k) (high ends k) (get_or b.parts k [])
     given_at k within =
         subst (λ (n : Normal). AreGiven n (graph texts) (low ends k) (high ends k) (get_or b.parts k [])) normal_is
-        (subst (λ (g : Graph). AreGiven (normal_form s.normal) g (low ends k) (high ends k) (get_or b.parts k [])) graph_is (b.put tell k within).given)
+        (subst (λ (g : Graph). AreGiven (normal_form s.normal) g (low ends k) (high ends k) (get_or b.parts k [])) (graph_is tell) (b.put tell k within).given)
 
     all_given : (e : Edge) → IsGiven (normal texts) (graph texts) e → Contains (all_edges b.parts) (born e 0)
     all_given e given =
@@ -148,7 +151,7 @@ module _ (grammar : List ℕ) (told : Option (List ℕ)) (tells : Type 0) (tell 
       pub of_texts : IsOfTexts texts c m
       of_texts =
           record {
-            good = record { grammar = src.grammar_reads.whole; edges = src.reads.whole };
+            good = good_texts;
             fits = fits;
             grammar_copy = record {
               bytes = ap (λ (l : List ℕ). take m.grammar_len l) (src.grammar_copy tell) ∙ take_all m.grammar_len grammar (omega (arith, first.grammar_len, src.grammar_len));

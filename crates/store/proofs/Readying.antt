@@ -22,7 +22,7 @@ use Rattle.store.specs.declared.tables.Tables.{Tables}
 use Rattle.store.specs.Making.{IsBuilt, IsFirst, IsPrepared, IsSource, MayPut, SameTexts}
 use Rattle.store.proofs.Fitting.{ends_of_parts, first_fits}
 use Rattle.store.proofs.Lengths.{within_limit}
-use Rattle.store.proofs.Opening.{first_fresh}
+use Rattle.store.proofs.Opening.{first_fresh, good_texts, labels_are, vertices_are as text_vertices}
 
 -- the copies are still those of the texts
 pub source_later : (grammar : List ℕ) (told : Option (List ℕ)) (tells : Type 0) (c d : Contents) (s : Source) → IsSource grammar told tells c s → (tells → SameTexts c d) → IsSource grammar told tells d s
@@ -89,6 +89,10 @@ module _ (grammar : List ℕ) (told : Option (List ℕ)) (tells : Type 0) (c : C
         ends = sym (ap (λ (l : List PartEntry). map (λ p. p.hi) l) first.parts ∙ ends_of_parts s ends tells c t by_degree.cut whole b);
         text = src.text;
         is_file = src.is_file;
+        good = good_texts grammar told tells c s src;
+        labels = first.labels ∙ labels_are grammar told tells c s src;
+        vertices = first.vertices ∙ text_vertices grammar told tells c s src;
+        edges_len = first.edges_len ∙ src.len_is;
         parts = b.parts;
-        fresh = λ tell. first_fresh grammar told tells tell c s src ends t by_degree.cut whole b m first fits limit by_degree;
+        fresh = λ tell. first_fresh grammar told tells c s src tell ends t by_degree.cut whole b m first fits limit by_degree;
       }

@@ -15,7 +15,7 @@ use Rattle.open_store.specs.Copy.{IsCopyRead}
 use Rattle.open_store.specs.Store.{IsHeldAlone, OpenStore}
 use Rattle.store_law.proofs.Keeping.{fresh_beside, fresh_switched}
 use Rattle.store.specs.declared.preparing.Prepared.{Prepared}
-use Rattle.store.specs.Import.{HasFresh, Imports, IsImportOf, texts_of}
+use Rattle.store.specs.Import.{HasFresh, Imports, IsImportOf, IsNewStore, texts_of}
 use Rattle.store.specs.Making.{IsBeside, IsPrepared}
 
 pub still_blank : (d c : Contents) → IsBeside d c → IsBlank d → IsBlank c
@@ -54,6 +54,23 @@ module _ (grammar : List ℕ) (told : Option (List ℕ)) (limit : ℕ) (tells : 
   pub import_of : (s : OpenStore) (slot : Slot) (c : Contents) → s ≡ record { slot = slot; manifest = p.manifest; rules = p.normal; ends = p.intervals } → slot ≡ Zero → tells → IsSwitched slot p.manifest seen c → IsImportOf grammar told limit c s.manifest
   import_of s slot c made zero tell switched =
       subst (λ (m : Manifest). IsImportOf grammar told limit c m) (sym (ap (λ (o : OpenStore). o.manifest) made)) (import_in c tell (subst (λ (z : Slot). IsSwitched z p.manifest seen c) zero switched))
+
+  pub new_store : (s : OpenStore) (slot : Slot) → s ≡ record { slot = slot; manifest = p.manifest; rules = p.normal; ends = p.intervals } → slot ≡ Zero → IsNewStore grammar told s
+  new_store s slot made zero =
+      subst (λ (o : OpenStore). IsNewStore grammar told o) (sym made)
+      (record {
+        slot_is = zero;
+        keeps = record { fits = is.fits; grammar = is.reads.limits; ends_are = is.ends };
+        names = is.names;
+        reads = is.reads;
+        text = is.text;
+        is_file = is.is_file;
+        good = is.good;
+        labels = is.labels;
+        vertices = is.vertices;
+        grammar_len = is.grammar_len;
+        edges_len = is.edges_len;
+      })
 
   copy_read : (file : List ℕ) → file ≡ grammar → IsCopyRead p.manifest file p.normal
   copy_read file same =

@@ -1,5 +1,5 @@
 -- What an import answers, and what a crash during one leaves.
-use Rattle.std.specs.Prelude.{◌≡◌, ◌⊎◌, ℕ, List, Option, Some, Ok}
+use Rattle.std.specs.Prelude.{◌≡◌, ◌⊎◌, ℕ, List, length, Option, Some, Ok}
 use Rattle.graph_words.specs.declared.types.Born.{Born}
 use Rattle.io_edge.specs.declared.kinds.InputFile.TheVariants.{Edges, Grammar, Source}
 use Rattle.io_edge.specs.Devices.{Rose}
@@ -12,7 +12,7 @@ use Rattle.manifest_switch.specs.declared.slot.Slot.{Slot}
 use Rattle.manifest_switch.specs.declared.slot.Slot.TheVariants.{Zero}
 use Rattle.manifest_switch.specs.declared.slot.Found.TheVariants.{At}
 use Rattle.manifest_switch.specs.Slots.{current_of}
-use Rattle.store_law.specs.Texts.{Texts}
+use Rattle.store_law.specs.Texts.{AreGood, Texts, graph, names_of}
 use Rattle.store_law.specs.Imported.{IsFresh, IsImported}
 use Rattle.open_store.specs.declared.fault.StoreFault.{StoreFault}
 use Rattle.open_store.specs.declared.fault.StoreFault.TheVariants.{BadStore, DiskFault, InputFault, NoMemory, OtherInput, ReadFault}
@@ -22,12 +22,19 @@ use Rattle.open_store.specs.Store.{IsOpenStore, OpenStore}
 abbrev pub texts_of : List ℕ → List ℕ → Texts
 texts_of grammar edges = record { grammar = grammar; edges = edges }
 
--- the store is in slot 0, keeps its rules, and has the rules of the grammar
-pub record IsNewStore (grammar : List ℕ) (s : OpenStore) : Type 0 where
+-- The store is in slot 0, keeps its rules, and has the rules of the grammar. Its manifest is one of the grammar and a text without a fault, which is the inputs' file where that is told.
+pub record IsNewStore (grammar : List ℕ) (told : Option (List ℕ)) (s : OpenStore) : Type 0 where
   pub slot_is : s.slot ≡ Zero
   pub keeps : IsOpenStore s
   pub names : List (List ℕ)
   pub reads : ReadsGrammar grammar s.rules names
+  pub text : List ℕ
+  pub is_file : (file : List ℕ) → told ≡ Some file → text ≡ file
+  pub good : AreGood (texts_of grammar text)
+  pub labels : s.manifest.labels ≡ names_of (texts_of grammar text)
+  pub vertices : s.manifest.vertices ≡ (graph (texts_of grammar text)).vertices
+  pub grammar_len : s.manifest.grammar_len ≡ length grammar
+  pub edges_len : s.manifest.edges_len ≡ length text
 
 -- the contents are a fresh store of the grammar and a text, which is the inputs' file where that is told
 pub record IsImportOf (grammar : List ℕ) (told : Option (List ℕ)) (limit : ℕ) (c : Contents) (m : Manifest) : Type 0 where

@@ -25,6 +25,7 @@ use Rattle.pair_sched.specs.Marks.{joined_of, newest_of}
 use Rattle.partition_file.specs.declared.types.Expect.{Expect}
 use Rattle.manifest.specs.declared.types.Manifest.{Manifest}
 use Rattle.manifest.specs.Spelling.{AreMarks, Fits as KeepsRules}
+use Rattle.store_law.specs.Texts.{AreGood, graph, names_of}
 use Rattle.store_law.specs.Imported.{IsFresh}
 use Rattle.store_law.specs.Listed.{ends_of}
 use Rattle.disk_model.specs.declared.form_kind.FormKind.{FormKind}
@@ -140,6 +141,10 @@ pub record IsPrepared (grammar : List ℕ) (told : Option (List ℕ)) (limit : �
   pub ends : p.intervals ≡ ends_of p.manifest
   pub text : List ℕ
   pub is_file : (file : List ℕ) → told ≡ Some file → text ≡ file
+  pub good : AreGood (texts_of grammar text)
+  pub labels : p.manifest.labels ≡ names_of (texts_of grammar text)
+  pub vertices : p.manifest.vertices ≡ (graph (texts_of grammar text)).vertices
+  pub edges_len : p.manifest.edges_len ≡ length text
   pub parts : List (List Born)
   pub fresh : tells → IsFresh (texts_of grammar text) limit c p.manifest parts
 

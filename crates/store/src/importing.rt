@@ -42,8 +42,8 @@ pub fn import<I: Inputs, D: Disk>(
     requires good { grammar_fault grammar.now ≡ None }
     requires blank { (c : Contents) → D.may_leave disk.old c → IsBlank c }
 
-    // The store is in slot 0, with the rules of the grammar, and no other slot is open in any image.
-    ensures store { IfOk result (IsNewStore grammar.now) }
+    // The store is in slot 0, by the grammar and a good edge file, and no other slot is open in any image.
+    ensures store { IfOk result (IsNewStore grammar.now (I.told inputs.old edges.now)) }
     ensures held { IfOk result (λ s. (c : Contents) → D.may_leave disk.new c → IsHeldAlone s c) }
 
     // It is the fresh store of both texts.
