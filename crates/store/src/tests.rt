@@ -78,8 +78,14 @@ fn an_import_writes_both_texts_a_partition_and_slot_0(rt: HostRuntime) -> Result
     assert!(rt; store.is_ok());
     assert_eq!(rt; file(alloc, &mut disk, 0)?.as_slice(), SLOT.as_slice());
     assert_eq!(rt; disk.len(1), Ok(0));
-    assert_eq!(rt; file(alloc, &mut disk, 2)?.as_slice(), b"S a b\n".as_slice());
-    assert_eq!(rt; file(alloc, &mut disk, 3)?.as_slice(), b"0 1 a\n1 2 b\n".as_slice());
+    assert_eq!(rt;
+        file(alloc, &mut disk, 2)?.as_slice(),
+        b"S a b\n".as_slice()
+    );
+    assert_eq!(rt;
+        file(alloc, &mut disk, 3)?.as_slice(),
+        b"0 1 a\n1 2 b\n".as_slice()
+    );
     assert_eq!(rt; file(alloc, &mut disk, 4)?.as_slice(), PART.as_slice());
     let Ok(Opened::Found(found)) = open(alloc, &mut disk, OpenMode::Look) else {
         panic!(rt; "no store");
