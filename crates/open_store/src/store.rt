@@ -33,6 +33,20 @@ impl Model for Store {
 }
 
 impl Store {
+    /// The open store of a manifest: its slot, the normal form of the grammar, and the intervals of
+    /// its partitions. It takes no memory.
+    pub fn new(slot: Slot, manifest: Manifest, normal: Normal, intervals: Intervals) -> Store
+        requires { IsOpenStore (record { slot = slot; manifest = manifest; rules = normal; ends = intervals }) }
+        ensures { result ≡ record { slot = slot; manifest = manifest; rules = normal; ends = intervals } }
+    {
+        Store {
+            slot,
+            manifest,
+            normal,
+            intervals,
+        }
+    }
+
     /// What the store says of itself.
     pub fn manifest(&self) -> &Manifest
         ensures manifest { result.now ≡ self.now.manifest }

@@ -16,7 +16,7 @@ cut_from_cover top from [] h = h
 cut_from_cover top from (p ∷ parts) h = (h.0, cut_from_cover top p.hi parts h.1)
 
 -- partitions one by one
-are_partitions : (from : ℕ) (ends : List ℕ) (parts : List (List Born)) → length parts ≡ length ends → ((i : ℕ) → i < length ends → IsPartition (slice_index_or (from ∷ ends) i 0) (slice_index_or ends i 0) (slice_index_or parts i [])) → ArePartitions from ends parts
+pub are_partitions : (from : ℕ) (ends : List ℕ) (parts : List (List Born)) → length parts ≡ length ends → ((i : ℕ) → i < length ends → IsPartition (slice_index_or (from ∷ ends) i 0) (slice_index_or ends i 0) (slice_index_or parts i [])) → ArePartitions from ends parts
 are_partitions from [] [] size each = tt
 are_partitions from [] (p ∷ ps) size each = absurd (omega arith)
 are_partitions from (e ∷ es) [] size each = absurd (omega arith)

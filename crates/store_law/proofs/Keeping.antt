@@ -86,22 +86,23 @@ module _ (t : Texts) (d c : Contents) (m : Manifest) (parts : List (List Born)) 
   pub beside_slots : IsBeside → IsStoreOf t d m parts → IsStoreOf t c m parts
   beside_slots others s = same_files (others 2 (omega arith) (omega arith)) (others 3 (omega arith) (omega arith)) (parts_beside others s.texts.fits) s
 
-  -- a fresh store whose manifest went to slot 0
-  pub fresh_switched : (limit : ℕ) → IsFresh t limit d m parts → current_of c ≡ Ok (At Zero m) → IsBeside → IsImported t limit c m parts
-  fresh_switched limit s is others =
+  -- a fresh store, whatever the slots hold
+  pub fresh_beside : (limit : ℕ) → IsFresh t limit d m parts → IsBeside → IsFresh t limit c m parts
+  fresh_beside limit s others =
       record {
-        current = is;
-        fresh = record {
-          first = s.first;
-          texts = same_texts (others 2 (omega arith) (omega arith)) (others 3 (omega arith) (omega arith)) s.texts;
-          degrees = s.degrees;
-          counted = s.counted;
-          intervals = s.intervals;
-          listed = same_listed (normal t).fresh (parts_beside others s.texts.fits) s.listed;
-          opening = s.opening;
-          tells = s.tells;
-        };
+        first = s.first;
+        texts = same_texts (others 2 (omega arith) (omega arith)) (others 3 (omega arith) (omega arith)) s.texts;
+        degrees = s.degrees;
+        counted = s.counted;
+        intervals = s.intervals;
+        listed = same_listed (normal t).fresh (parts_beside others s.texts.fits) s.listed;
+        opening = s.opening;
+        tells = s.tells;
       }
+
+  -- one whose manifest went to slot 0
+  pub fresh_switched : (limit : ℕ) → IsFresh t limit d m parts → current_of c ≡ Ok (At Zero m) → IsBeside → IsImported t limit c m parts
+  fresh_switched limit s is others = record { current = is; fresh = fresh_beside limit s others }
 
   pub free_file : (f : ℕ) → IsFree m f → OnlyFile f d c → IsStoreOf t d m parts → IsStoreOf t c m parts
   free_file f free only s =

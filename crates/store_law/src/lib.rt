@@ -39,6 +39,7 @@ pub fn stores_are_left()
 /// A fresh store is a store, and what is one with its manifest becomes it by a switch to slot 0.
 pub fn imported_is_a_store()
     ensures rest { (t : Texts) (limit : ℕ) (c : Contents) (m : AManifest) (parts : List (List ABorn)) → IsFresh t limit c m parts → IsStoreOf t c m parts }
+    ensures beside { (t : Texts) (limit : ℕ) (seen c : Contents) (m : AManifest) (parts : List (List ABorn)) → IsFresh t limit seen m parts → ((f : ℕ) → f ≢ 0 → f ≢ 1 → c f ≡ seen f) → IsFresh t limit c m parts }
     ensures switched { (t : Texts) (seen c : Contents) (m : AManifest) (parts : List (List ABorn)) (limit : ℕ) → IsFresh t limit seen m parts → current_of c ≡ Ok (At Zero m) → ((f : ℕ) → f ≢ 0 → f ≢ 1 → c f ≡ seen f) → IsImported t limit c m parts }
     ensures store { (t : Texts) (limit : ℕ) (c : Contents) (m : AManifest) (parts : List (List ABorn)) → IsImported t limit c m parts → IsStore t c m parts }
 {}

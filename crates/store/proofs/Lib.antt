@@ -1,0 +1,12 @@
+pub mod Lengths
+pub mod Boxes
+pub mod Parts
+pub mod Covering
+pub mod Fitting
+pub mod Opening
+pub mod Causes
+pub mod Images
+pub mod Building
+pub mod Counts
+pub mod Readying
+pub mod Switching

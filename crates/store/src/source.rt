@@ -1,0 +1,92 @@
+//! The two texts of a store are read, checked and copied to the disk.
+ghost use Rattle.std.specs.Prelude.{◌≡◌, ◌≤◌, ℕ, List, None, IsTrue, IfOk, IfErr};
+ghost use Rattle.disk_model.specs.Crash.{LeavesOnly, From};
+ghost use Rattle.grammar_norm.specs.GrammarText.{ReadsGrammar, grammar_fault};
+ghost use Rattle.open_store.specs.declared.fault.StoreFault.TheVariants.{NoMemory};
+ghost use Rattle.store.specs.Import.{HasImportCause};
+ghost use Rattle.store.specs.Making.{IsBeside, IsSource, of_text as fault_of_text};
+
+use disk_files::rewrite;
+use disk_model::{Disk, FormKind};
+use grammar_norm::{Grammar, LabelTable, Normal, normalise, read_grammar};
+use import_text::{Copied, TextFault, copy_edges};
+use io_edge::{InputFile, Inputs};
+use open_store::StoreFault;
+use std::alloc::Global;
+
+/// The file of the copy of the grammar's text.
+const GRAMMAR_FILE: u32 = 2;
+
+/// The file of the copy of the edge file.
+pub(crate) const EDGES_FILE: u32 = 3;
+
+/// Both texts, read and copied.
+#[derive(Drop)]
+pub(crate) struct Source {
+    pub grammar_len: u64,
+    pub normal: Normal,
+    pub copied: Copied,
+}
+
+// The fault of a store whose edge file, or its copy, was read with this fault.
+pub(crate) fn of_text(fault: TextFault) -> StoreFault
+    ensures { result ≡ fault_of_text fault }
+{
+    match fault {
+        TextFault::ReadFault => StoreFault::ReadFault,
+        TextFault::DiskFault => StoreFault::DiskFault,
+        TextFault::Text { line, kind } => StoreFault::InputFault {
+            file: InputFile::Edges,
+            line,
+            kind,
+        },
+        TextFault::BadCopy => StoreFault::BadStore {
+            file: EDGES_FILE,
+            place: 0,
+            kind: FormKind::BadText,
+        },
+        TextFault::NoMemory => StoreFault::NoMemory,
+    }
+}
+
+// The rules of a grammar's text without a fault, and its names.
+fn read_good(alloc: Global, grammar: &[u8]) -> Result<(Grammar, LabelTable), StoreFault>
+    requires { grammar_fault grammar.now ≡ None }
+    ensures read { IfOk result (λ x. ReadsGrammar grammar.now x.0 x.1) }
+    ensures memory { IfErr result (λ e. e ≡ NoMemory) }
+{
+    match read_grammar(alloc, grammar) {
+        Ok(read) => Ok(read),
+        // Such a text has no fault, so memory was wanted.
+        Err(_) => Err(StoreFault::NoMemory),
+    }
+}
+
+/// Reads both texts and copies them to files 2 and 3.
+pub(crate) fn copy_texts<I: Inputs, D: Disk>(
+    alloc: Global,
+    inputs: &mut I,
+    edges: &str,
+    grammar: &[u8],
+    disk: &mut D,
+) -> Result<Source, StoreFault>
+    requires { grammar_fault grammar.now ≡ None }
+    ensures source { IfOk result (IsSource grammar.now (I.told inputs.old edges.now) (IsTrue D.tells) (D.seen disk.new)) }
+    ensures any_moment { LeavesOnly D.moment D.left_since disk.old disk.new (From (D.may_leave disk.old) IsBeside) }
+    ensures cause { IfErr result (HasImportCause grammar.now (I.told inputs.old edges.now) (IsTrue D.tells) (I.faults inputs.old edges.now) (I.faults inputs.new edges.now) (D.faults disk.old) (D.faults disk.new)) }
+    ensures kept { I.told inputs.new ≡ I.told inputs.old }
+    ensures others { (other : List ℕ) → I.faults inputs.old other ≤ I.faults inputs.new other }
+    ensures later { D.faults disk.old ≤ D.faults disk.new }
+{
+    let (rules, names) = read_good(alloc, grammar)?;
+    let normal = normalise(alloc, &rules)?;
+    rewrite(disk, GRAMMAR_FILE, grammar)?;
+    match copy_edges(alloc, inputs, edges, names, disk, EDGES_FILE) {
+        Ok(copied) => Ok(Source {
+            grammar_len: grammar.len() as u64,
+            normal,
+            copied,
+        }),
+        Err(fault) => Err(of_text(fault)),
+    }
+}
