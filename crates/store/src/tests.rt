@@ -29,7 +29,24 @@ const PART: [u8; 64] = [
     0, 0, 0, 0, 0, 0, 0, 0, // the row of 2
 ];
 
-// Imports an edge file under the grammar `S a b` to a blank disk.
+// Imports the file `e` under a good grammar to a blank disk.
+fn import_to_blank(
+    alloc: Global,
+    inputs: &mut MemInputs,
+    grammar: &[u8],
+    disk: &mut MemDisk,
+    limit: u64,
+) -> Result<Store, StoreFault> {
+    let Ok(_read) = read_grammar(alloc, grammar) else {
+        return Err(StoreFault::NoMemory);
+    };
+    match open(alloc, disk, OpenMode::Change)? {
+        Opened::Blank => import(alloc, inputs, "e", grammar, disk, limit),
+        Opened::Found(store) => Ok(store),
+    }
+}
+
+// Imports an edge file under the grammar `S a b`.
 fn imported(
     alloc: Global,
     edges: &[u8],
@@ -40,14 +57,7 @@ fn imported(
     let bytes = edges.to_vec(alloc)?;
     let mut inputs = MemInputs::new(vec![in alloc; NamedBytes { name, bytes }]?);
     let grammar = b"S a b\n".as_slice();
-    if read_grammar(alloc, grammar).is_err() {
-        return Ok(Err(StoreFault::NoMemory));
-    }
-    match open(alloc, disk, OpenMode::Change) {
-        Ok(Opened::Blank) => Ok(import(alloc, &mut inputs, "e", grammar, disk, limit)),
-        Ok(Opened::Found(store)) => Ok(Ok(store)),
-        Err(fault) => Ok(Err(fault)),
-    }
+    Ok(import_to_blank(alloc, &mut inputs, grammar, disk, limit))
 }
 
 // The bytes of a file.
