@@ -1,8 +1,5 @@
 //! What no clause says: that an import succeeds, its bytes, and which fault comes where a call fails.
-ghost use Rattle.std.specs.Prelude.{IfOk};
-ghost use Rattle.disk_model.specs.Disk.{Contents};
-ghost use Rattle.disk_model.specs.MemDisk.{images_of};
-ghost use Rattle.manifest_switch.specs.Slots.{IsBlank};
+ghost use Rattle.std.specs.Prelude.{◌<◌};
 
 use super::*;
 use disk_model::{Disk, MemDisk};
@@ -32,13 +29,21 @@ const PART: [u8; 64] = [
     0, 0, 0, 0, 0, 0, 0, 0, // the row of 2
 ];
 
-// A blank disk of which these calls fail.
-fn blank_disk(alloc: Global, failing: Vec<u64>) -> Result<MemDisk, Fail>
-    ensures { IfOk result (λ disk. (c : Contents) → images_of disk c → IsBlank c) }
-{
-    let mut disk = MemDisk::new(alloc)?;
-    disk.fail_calls(failing);
-    Ok(disk)
+// Imports the file `e` under a good grammar to a blank disk.
+fn import_to_blank(
+    alloc: Global,
+    inputs: &mut MemInputs,
+    grammar: &[u8],
+    disk: &mut MemDisk,
+    limit: u64,
+) -> Result<Store, StoreFault> {
+    let Ok(_read) = read_grammar(alloc, grammar) else {
+        return Err(StoreFault::NoMemory);
+    };
+    match open(alloc, disk, OpenMode::Change)? {
+        Opened::Blank => import(alloc, inputs, "e", grammar, disk, limit),
+        Opened::Found(store) => Ok(store),
+    }
 }
 
 // Imports an edge file under the grammar `S a b`.
@@ -47,21 +52,18 @@ fn imported(
     edges: &[u8],
     disk: &mut MemDisk,
     limit: u64,
-) -> Result<Result<Store, StoreFault>, Fail>
-    requires { (c : Contents) → images_of disk.old c → IsBlank c }
-{
-    let grammar = b"S a b\n".as_slice();
-    if read_grammar(alloc, grammar).is_err() {
-        return Ok(Err(StoreFault::NoMemory));
-    }
+) -> Result<Result<Store, StoreFault>, Fail> {
     let name = String::from_str(alloc, "e")?;
     let bytes = edges.to_vec(alloc)?;
     let mut inputs = MemInputs::new(vec![in alloc; NamedBytes { name, bytes }]?);
-    Ok(import(alloc, &mut inputs, "e", grammar, disk, limit))
+    let grammar = b"S a b\n".as_slice();
+    Ok(import_to_blank(alloc, &mut inputs, grammar, disk, limit))
 }
 
 // The bytes of a file.
-fn file(alloc: Global, disk: &mut MemDisk, number: u32) -> Result<Vec<u8>, Fail> {
+fn file(alloc: Global, disk: &mut MemDisk, number: u32) -> Result<Vec<u8>, Fail>
+    requires { number < 1024 }
+{
     let mut bytes = vec![in alloc; 0; 100]?;
     match disk.read(number, 0, &mut bytes) {
         Ok(n) => bytes.truncate(n),
@@ -73,7 +75,7 @@ fn file(alloc: Global, disk: &mut MemDisk, number: u32) -> Result<Vec<u8>, Fail>
 #[test]
 fn an_import_writes_both_texts_a_partition_and_slot_0(rt: HostRuntime) -> Result<(), Fail> {
     let alloc = rt.alloc();
-    let mut disk = blank_disk(alloc, Vec::new(alloc))?;
+    let mut disk = MemDisk::new(alloc)?;
     let store = imported(alloc, b"0 1 a\n1 2 b\n", &mut disk, 1_000_000)?;
     assert!(rt; store.is_ok());
     assert_eq!(rt; file(alloc, &mut disk, 0)?.as_slice(), SLOT.as_slice());
@@ -97,7 +99,7 @@ fn an_import_writes_both_texts_a_partition_and_slot_0(rt: HostRuntime) -> Result
 #[test]
 fn a_fault_of_the_edge_file_leaves_a_blank_store(rt: HostRuntime) -> Result<(), Fail> {
     let alloc = rt.alloc();
-    let mut disk = blank_disk(alloc, Vec::new(alloc))?;
+    let mut disk = MemDisk::new(alloc)?;
     let refused = imported(alloc, b"0 1 a\n0 1\n", &mut disk, 1_000_000)?;
     assert!(rt;
         matches!(
@@ -117,11 +119,12 @@ fn a_fault_of_the_edge_file_leaves_a_blank_store(rt: HostRuntime) -> Result<(), 
 #[test]
 fn each_call_of_the_disk_that_fails_is_a_disk_fault(rt: HostRuntime) -> Result<(), Fail> {
     let alloc = rt.alloc();
-    let mut whole = blank_disk(alloc, Vec::new(alloc))?;
+    let mut whole = MemDisk::new(alloc)?;
     let store = imported(alloc, b"0 1 a\n1 2 b\n", &mut whole, 1)?;
     assert!(rt; store.is_ok());
     for call in 0..whole.calls() {
-        let mut disk = blank_disk(alloc, vec![in alloc; call]?)?;
+        let mut disk = MemDisk::new(alloc)?;
+        disk.fail_calls(vec![in alloc; call]?);
         let refused = imported(alloc, b"0 1 a\n1 2 b\n", &mut disk, 1)?;
         assert!(rt; matches!(refused, Err(StoreFault::DiskFault)));
     }
@@ -134,7 +137,7 @@ fn parts_of_path(alloc: Global, edges: u32) -> Result<usize, Fail> {
     for v in 0..edges {
         text.extend_from_slice(format!(in alloc; "{v} {} a\n", v + 1)?.as_bytes())?;
     }
-    let mut disk = blank_disk(alloc, Vec::new(alloc))?;
+    let mut disk = MemDisk::new(alloc)?;
     match imported(alloc, &text, &mut disk, 1)? {
         Ok(store) => Ok(store.intervals().len()),
         Err(_) => Ok(0),
