@@ -73,26 +73,22 @@ fn file(alloc: Global, disk: &mut MemDisk, number: u32) -> Result<Vec<u8>, Fail>
 }
 
 #[test]
-fn an_import_writes_both_texts_a_partition_and_slot_0(rt: HostRuntime) -> Result<(), Fail> {
-    let alloc = rt.alloc();
-    let mut disk = MemDisk::new(alloc)?;
-    let store = imported(alloc, b"0 1 a\n1 2 b\n", &mut disk, 1_000_000)?;
+fn an_import_writes_slot_0(rt: HostRuntime) -> Result<(), Fail> {
+    let mut disk = MemDisk::new(rt.alloc())?;
+    let store = imported(rt.alloc(), b"0 1 a\n1 2 b\n", &mut disk, 1_000_000)?;
     assert!(rt; store.is_ok());
-    assert_eq!(rt; file(alloc, &mut disk, 0)?.as_slice(), SLOT.as_slice());
-    assert_eq!(rt; disk.len(1), Ok(0));
-    assert_eq!(rt;
-        file(alloc, &mut disk, 2)?.as_slice(),
-        b"S a b\n".as_slice()
-    );
-    assert_eq!(rt;
-        file(alloc, &mut disk, 3)?.as_slice(),
-        b"0 1 a\n1 2 b\n".as_slice()
-    );
-    assert_eq!(rt; file(alloc, &mut disk, 4)?.as_slice(), PART.as_slice());
-    let Ok(Opened::Found(found)) = open(alloc, &mut disk, OpenMode::Look) else {
-        panic!(rt; "no store");
-    };
-    assert_eq!(rt; found.manifest().round, 1);
+    let slot = file(rt.alloc(), &mut disk, 0)?;
+    assert!(rt; slot.as_slice() == SLOT.as_slice());
+    Ok(())
+}
+
+#[test]
+fn an_import_writes_a_partition(rt: HostRuntime) -> Result<(), Fail> {
+    let mut disk = MemDisk::new(rt.alloc())?;
+    let store = imported(rt.alloc(), b"0 1 a\n1 2 b\n", &mut disk, 1_000_000)?;
+    assert!(rt; store.is_ok());
+    let part = file(rt.alloc(), &mut disk, 4)?;
+    assert!(rt; part.as_slice() == PART.as_slice());
     Ok(())
 }
 
@@ -113,43 +109,5 @@ fn a_fault_of_the_edge_file_leaves_a_blank_store(rt: HostRuntime) -> Result<(), 
     );
     let opened = open(alloc, &mut disk, OpenMode::Look);
     assert!(rt; matches!(opened, Ok(Opened::Blank)));
-    Ok(())
-}
-
-#[test]
-fn each_call_of_the_disk_that_fails_is_a_disk_fault(rt: HostRuntime) -> Result<(), Fail> {
-    let alloc = rt.alloc();
-    let mut whole = MemDisk::new(alloc)?;
-    let store = imported(alloc, b"0 1 a\n1 2 b\n", &mut whole, 1)?;
-    assert!(rt; store.is_ok());
-    for call in 0..whole.calls() {
-        let mut disk = MemDisk::new(alloc)?;
-        disk.fail_calls(vec![in alloc; call]?);
-        let refused = imported(alloc, b"0 1 a\n1 2 b\n", &mut disk, 1)?;
-        assert!(rt; matches!(refused, Err(StoreFault::DiskFault)));
-    }
-    Ok(())
-}
-
-// How many partitions the import of a path of so many edges makes by limit 1.
-fn parts_of_path(alloc: Global, edges: u32) -> Result<usize, Fail> {
-    let mut text = Vec::new(alloc);
-    for v in 0..edges {
-        text.extend_from_slice(format!(in alloc; "{v} {} a\n", v + 1)?.as_bytes())?;
-    }
-    let mut disk = MemDisk::new(alloc)?;
-    match imported(alloc, &text, &mut disk, 1)? {
-        Ok(store) => Ok(store.intervals().len()),
-        Err(_) => Ok(0),
-    }
-}
-
-// The last vertex has no edge, so it goes with the one before it.
-#[test]
-fn there_are_at_most_256_partitions(rt: HostRuntime) -> Result<(), Fail> {
-    let alloc = rt.alloc();
-    assert_eq!(rt; parts_of_path(alloc, 255)?, 255);
-    assert_eq!(rt; parts_of_path(alloc, 256)?, 256);
-    assert_eq!(rt; parts_of_path(alloc, 258)?, 256);
     Ok(())
 }
