@@ -22,7 +22,8 @@ use Rattle.open_store.proofs.Places.{place_of_lies}
 use Rattle.store.specs.declared.source.Source.{Source}
 use Rattle.store.specs.declared.tables.Tables.{Tables}
 use Rattle.store.specs.Making.{IsBuilt, IsFirst, expect_at}
-use Rattle.store.proofs.Boxes.{IsInside, passing_fit}
+use Rattle.closing_machine.specs.Capacity.{IsBetween}
+use Rattle.closing_machine.proofs.Boxes.{passing_fit}
 use Rattle.store.proofs.Covering.{cover_is, ends_are, same_low, width_is}
 use Rattle.store.proofs.Parts.{all_of}
 
@@ -44,7 +45,7 @@ record IsInFormat (ends : List ℕ) (b : Born) : Type 0 where
   label : b.edge.label.0 < 63000
   destination : b.edge.dst.0 < vertices_of ends
 
-inside : (ends : List ℕ) (i j : ℕ) (b : Born) → IsCut ends → IsInFormat ends b → (part ends b == i && target ends b == j) ≡ true → IsInside (low ends i) (high ends i) (low ends j) (high ends j) b
+inside : (ends : List ℕ) (i j : ℕ) (b : Born) → IsCut ends → IsInFormat ends b → (part ends b == i && target ends b == j) ≡ true → IsBetween (low ends i) (high ends i) (low ends j) (high ends j) b
 inside ends i j b cut f test =
     let two = both (part ends b == i) (target ends b == j) test in
     let from = subst (λ (k : ℕ). LiesIn ends k b.edge.src.0) (same_number (part ends b) i two.0) (lies_at ends b.edge.src.0 cut f.source) in

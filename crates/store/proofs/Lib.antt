@@ -1,5 +1,4 @@
 pub mod Lengths
-pub mod Boxes
 pub mod Parts
 pub mod Covering
 pub mod Fitting
