@@ -9,7 +9,7 @@ folder=$(mktemp -d)
 trap 'rm -rf "$folder"' EXIT
 lines=2000000
 awk -v n=$lines 'BEGIN {
-    for (i = 0; i < n; i++) printf "%d %d %s\n", (i * 7919) % 1000003, (i * 104729) % 1000003, i % 3 ? "a" : "b"
+    for (i = 0; i < n; i++) printf "%d %d %s\n", (i * 7919) % 1000003, (i * 104729) % 999983, i % 3 ? "a" : "b"
 }' >"$folder/edges"
 printf 'S a b\nS S S\n' >"$folder/grammar"
 rustc --edition 2021 -O -o "$folder/plain" "$top/bench/import_plain.rs"

@@ -202,14 +202,14 @@ fn left_after(alloc: Global, call: u64) -> Result<(Held, Held, u64), Fail> {
 }
 
 // The new store, or a blank one.
-fn held(is_new: bool) -> Held {
+fn new_or_blank(is_new: bool) -> Held {
     if is_new { Held::Round(1) } else { Held::Blank }
 }
 
 #[test]
 fn a_stop_leaves_a_blank_store_or_the_new_one(rt: HostRuntime) -> Result<(), Fail> {
     for call in 0..=CALLS {
-        let wanted = (held(GATE < call), held(call == CALLS), 0);
+        let wanted = (new_or_blank(GATE < call), new_or_blank(call == CALLS), 0);
         assert_eq!(rt; left_after(rt.alloc(), call)?, wanted, "stopped at {call}");
     }
     Ok(())
