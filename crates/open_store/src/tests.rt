@@ -150,6 +150,9 @@ fn a_fault_has_a_text(rt: HostRuntime) -> Result<(), Fail> {
         kind: FormKind::Extra,
     };
     let text = format!(in rt.alloc(); "{fault}")?;
-    assert_eq!(rt; text.as_str(), "file 5 of the store is broken at byte 78: Extra");
+    assert_eq!(rt;
+        text.as_str(),
+        "file 5 of the store is broken at byte 78: Extra"
+    );
     Ok(())
 }
