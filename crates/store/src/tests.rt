@@ -48,10 +48,10 @@ fn import_to_blank(
     let Ok(_read) = read_grammar(alloc, grammar) else {
         return Err(StoreFault::NoMemory);
     };
-    match open(alloc, disk, OpenMode::Change)? {
-        Opened::Blank => import(alloc, inputs, "e", grammar, disk, limit),
-        Opened::Found(store) => Ok(store),
-    }
+    let Opened::Blank = open(alloc, disk, OpenMode::Change)? else {
+        return Err(StoreFault::NoMemory);
+    };
+    import(alloc, inputs, "e", grammar, disk, limit)
 }
 
 // Imports an edge file under the grammar `S a b`.
