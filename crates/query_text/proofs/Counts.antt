@@ -3,7 +3,7 @@ use Rattle.std.proofs.Common.{◌≡◌, ◌≢◌, ℕ, zero, suc, ◌+◌, ◌
 use Rattle.std.specs.Prelude.{slice_index_or, slice_set, count_by, Bool, true, false, cond, ◌==◌}
 use Rattle.std.proofs.lemmas.Bool.{cases_eq, cases_lt}
 use Rattle.std.proofs.lemmas.Bool.Decides.{nat_tests}
-use Rattle.std.proofs.lemmas.List.{get_or-set_same, get_or-set_other, length-set, get_or_past, take_more}
+use Rattle.std.proofs.lemmas.List.{get_or-set_same, get_or-set_other, length-set, get_or_past, length-take, take_more}
 use Rattle.std.proofs.lemmas.List.Sums.{count_by-le-length, sum_by-append}
 use Rattle.graph_words.specs.declared.types.Born.{Born}
 use Rattle.query_text.specs.Text.{label_count, label_line, label_lines, tally_text}
@@ -69,7 +69,7 @@ lines_more names edges i d below =
     ∙ ap (λ (t : List ℕ). tally_text (take i names) edges ++ t) (append-nil (label_line (get_or names i d) (label_count edges i)))
   where
     at : (names : List (List ℕ)) (i : ℕ) → i < length names → 0 + length (take i names) ≡ i
-    at names i below = grind (arith)
+    at names i below = omega (arith, below, length-take i names)
 
 pub lines_front : (names : List (List ℕ)) (edges : List Born) (i : ℕ) → tally_text names edges ≡ tally_text (take i names) edges ++ label_lines (0 + length (take i names)) (drop i names) edges
 lines_front names edges i = ap (λ (l : List (List ℕ)). tally_text l edges) (sym (take-append-drop i names)) ∙ lines_append 0 (take i names) (drop i names) edges

@@ -3,6 +3,7 @@ use Rattle.std.proofs.Common.{◌≡◌, ℕ, zero, suc, ◌+◌, ◌≤◌, ◌
 use Rattle.std.specs.Prelude.{Bool, IsTrue, IfOk, slice_index_or}
 use Rattle.std.proofs.lemmas.List.{ext_get_or}
 use Rattle.graph_words.specs.declared.types.Born.{Born}
+use Rattle.std.specs.Io.KnownBytes.{Appends}
 use Rattle.io_edge.specs.Devices.{AppendsPrefix, Takes}
 use Rattle.io_edge.proofs.DeviceLemmas.{AppendsPrefix-more}
 use Rattle.closing_machine.specs.State.{IsCut}
@@ -54,7 +55,7 @@ module _ (s : OpenStore) (o : IsOpenStore s) (tells : Bool) (t : IsTrue tells) (
 
   -- the text of all that is listed, or a prefix of it
   pub listed_all : {T : Type 0} (text : List Born → List ℕ) (a b : Option (List ℕ)) (result : Result T AnswerFault) (read : List (List Born)) → ((xs ys : List Born) → text (xs ++ ys) ≡ text xs ++ text ys) → IsPrinted s tells c 0 (length s.manifest.parts) text a b result read → Takes a b result (text (all_edges parts))
-  listed_all text a b (Ok x) read joins p = subst (λ (l : List (List Born)). Takes a b (Ok {B = AnswerFault} x) (text (all_edges l))) (read_all read p.are_read p.all) p.taken
+  listed_all text a b (Ok x) read joins p = subst (λ (l : List (List Born)). Appends a b (text (all_edges l))) (read_all read p.are_read p.all) p.taken
   listed_all text a b (Err f) read joins p =
       let rest = front read p.are_read in
       let whole : text (all_edges parts) ≡ text (all_edges read) ++ text (all_edges rest.0) = ap (λ (l : List (List Born)). text (all_edges l)) rest.1 ∙ ap text (all_edges-append read rest.0) ∙ joins (all_edges read) (all_edges rest.0) in
@@ -71,7 +72,7 @@ module _ (s : OpenStore) (o : IsOpenStore s) (tells : Bool) (t : IsTrue tells) (
 
   -- where only partition i has what is printed
   pub listed_one : {T : Type 0} (text : List Born → List ℕ) (i : ℕ) (a b : Option (List ℕ)) (result : Result T AnswerFault) (read : List (List Born)) → text [] ≡ [] → text (all_edges parts) ≡ text (slice_index_or parts i []) → IsPrinted s tells c i 1 text a b result read → Takes a b result (text (all_edges parts))
-  listed_one text i a b (Ok x) read none here p = subst (λ (l : List ℕ). Takes a b (Ok {B = AnswerFault} x) l) (ap text (read_single i read p.are_read p.all) ∙ sym here) p.taken
+  listed_one text i a b (Ok x) read none here p = subst (λ (l : List ℕ). Appends a b l) (ap text (read_single i read p.are_read p.all) ∙ sym here) p.taken
   listed_one text i a b (Err f) [] none here p = AppendsPrefix-more a b [] (text (all_edges parts)) (subst (λ (l : List ℕ). AppendsPrefix a b l) none p.taken)
   listed_one text i a b (Err f) (q ∷ []) none here p = subst (λ (l : List ℕ). AppendsPrefix a b l) (ap text (single i q p.are_read) ∙ sym here) p.taken
   listed_one text i a b (Err f) (q ∷ r ∷ more) none here p = absurd (omega (arith, p.few))

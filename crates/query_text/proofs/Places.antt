@@ -20,15 +20,15 @@ is_same : (a b : ℕ) → a ≡ b → (a == b) ≡ true
 is_same a b e = grind (arith, nat_tests)
 
 -- what passes one test passes the other too
+filter_one : (p q : Born → Bool) (x : Born) (xs : List Born) (t u : Bool) → p x ≡ t → q x ≡ u → (p x ≡ true → q x ≡ true) → filter p (filter q xs) ≡ filter p xs → filter p (filter q (x ∷ xs)) ≡ filter p (x ∷ xs)
+filter_one p q x xs true true e f up later = rw (f, e, later) refl
+filter_one p q x xs true false e f up later = absurd (let g = up e in cc)
+filter_one p q x xs false true e f up later = rw (f, e, later) refl
+filter_one p q x xs false false e f up later = rw (f, e, later) refl
+
 filter_within : (p q : Born → Bool) (xs : List Born) → ((b : Born) → p b ≡ true → q b ≡ true) → filter p (filter q xs) ≡ filter p xs
 filter_within p q [] up = refl
-filter_within p q (x ∷ xs) up = one x xs (p x) (q x) refl refl
-  where
-    one : (x : Born) (xs : List Born) (t u : Bool) → p x ≡ t → q x ≡ u → filter p (filter q (x ∷ xs)) ≡ filter p (x ∷ xs)
-    one x xs true true e f = rw (f, e, filter_within p q xs up) refl
-    one x xs true false e f = absurd (let g = up x e in cc)
-    one x xs false true e f = rw (f, e, filter_within p q xs up) refl
-    one x xs false false e f = rw (f, e, filter_within p q xs up) refl
+filter_within p q (x ∷ xs) up = filter_one p q x xs (p x) (q x) refl refl (up x) (filter_within p q xs up)
 
 pub answers_from : (ends : List ℕ) (parts : List (List Born)) (top : ℕ) (label : LabelId) (u : ℕ) (to : Option ℕ) → IsCut 0 ends top → ArePartitions 0 ends parts → answers_in label (Some u) to (all_edges parts) ≡ answers_in label (Some u) to (slice_index_or parts (place ends u) [])
 answers_from ends parts top label u to cut are =

@@ -73,7 +73,7 @@ module _ (s : OpenStore) (tells : Bool) (c : Contents) where
         record { above = at.0; below = at.1; label = label_fits i b fits; vertex = omega (arith, fits.vertex, o.fits.vertices) })
 
     all_few : (first : ℕ) (read : List (List Born)) → ((k : ℕ) → k < length read → Reads (first + k) (slice_index_or read k [])) → length (all_edges read) + low (ends_of s.manifest) first * 1056964608000 ≤ low (ends_of s.manifest) (first + length read) * 1056964608000
-    all_few first [] each = let e : first ≡ first + 0 = omega arith in subst (λ (n : ℕ). low (ends_of s.manifest) first * 1056964608000 ≤ low (ends_of s.manifest) n * 1056964608000) e (omega arith)
+    all_few first [] each = let e : first ≡ first + 0 = omega arith in let same = ap (λ (n : ℕ). low (ends_of s.manifest) n) e in omega (arith, same)
     all_few first (p ∷ read) each =
         let zeroth : first + 0 ≡ first = omega arith in
         let is = subst (λ (n : ℕ). Reads n p) zeroth (each 0 (omega arith)) in

@@ -1,9 +1,12 @@
 -- The lines of edges, part by part.
-use Rattle.std.proofs.Common.{◌≡◌, ℕ, ◌+◌, ◌≤◌, ◌<◌, List, [], ◌∷◌, ◌++◌, length, Result, Ok, Err, Option, sym, subst, ap, ◌∙◌, append_assoc, append-nil, arith, length-append}
+use Rattle.std.proofs.Common.{◌≡◌, ℕ, ◌+◌, ◌≤◌, ◌<◌, List, [], ◌∷◌, ◌++◌, length, Result, Ok, Err, Option, sym, subst, ap, ◌∙◌, append_assoc, append-nil, take, drop, get_or, take-append-drop, arith, length-append}
 use Rattle.std.specs.Prelude.{Bool, true, false, IsTrue}
 use Rattle.std.specs.List.{flat_map}
 use Rattle.std.proofs.lemmas.Grind.{flat_map-append}
+use Rattle.std.proofs.lemmas.List.{length-take, take_more}
 use Rattle.std.proofs.lemmas.List.Elements.{filter-append}
+use Rattle.std.proofs.lemmas.List.Sums.{count_by-le-length, length-filter}
+use Rattle.io_edge.specs.Devices.{AppendsPrefix}
 use Rattle.graph_words.specs.declared.types.Born.{Born}
 use Rattle.closing_machine.specs.Parts.{all_edges}
 use Rattle.disk_model.specs.Disk.{Contents}
@@ -12,11 +15,11 @@ use Rattle.store_law.specs.Listed.{part_file}
 use Rattle.open_store.specs.Store.{OpenStore}
 use Rattle.open_store.specs.Reading.{IsRead, IsRefused}
 use Rattle.query_text.specs.Answered.{AreRead, HasAnswerCause, IsBlamed, IsPrinted}
-use Rattle.query_text.specs.Shown.{Gathers, IsGathered, is_shown, line_of, shown_in, shown_text}
+use Rattle.query_text.specs.Shown.{Gathers, HasGathered, IsGathered, is_shown, line_of, shown_in, shown_text}
 use Rattle.query_text.specs.declared.fault.AnswerFault.{AnswerFault}
 use Rattle.query_text.specs.declared.fault.AnswerFault.TheVariants.{BadStore, DiskFault, NoMemory, WriteFault}
 use Rattle.query_text.specs.declared.show.Show.{Show}
-use Rattle.query_text.proofs.Gathering.{gathers_none, gathers_then, nothing_taken}
+use Rattle.query_text.proofs.Gathering.{gathers_longer, gathers_none, gathers_then}
 use Rattle.query_text.proofs.Reading.{all_edges-append, read_none, read_then}
 
 module _ (show : Show) (names : List (List ℕ)) where
@@ -30,10 +33,10 @@ module _ (show : Show) (names : List (List ℕ)) where
   shown_number xs ys = ap (λ (l : List Born). length l) (shown_in-append xs ys) ∙ length-append (shown_in show names xs) (shown_in show names ys)
 
 module _ (s : OpenStore) (tells : Bool) (c : Contents) (show : Show) where
-  text : List (List Born) → List ℕ
+  abbrev text : List (List Born) → List ℕ
   text read = shown_text show s.manifest.labels (all_edges read)
 
-  number : List (List Born) → ℕ
+  abbrev number : List (List Born) → ℕ
   number read = length (shown_in show s.manifest.labels (all_edges read))
 
   text_then : (xs ys : List (List Born)) → text (xs ++ ys) ≡ text xs ++ text ys
@@ -91,25 +94,25 @@ module _ (s : OpenStore) (tells : Bool) (c : Contents) (show : Show) where
       }
 
 -- a cause that a call behind others has is one of all
-pub cause_later : (w0 w1 w2 d0 d1 d2 : ℕ) (bad worse : ℕ → ℕ → FormKind → Type 0) {T U : Type 0} (f : AnswerFault) → w0 ≤ w1 → d0 ≤ d1 → ((file place : ℕ) (kind : FormKind) → bad file place kind → worse file place kind) → HasAnswerCause {T = T} w1 w2 d1 d2 bad (Err f) → HasAnswerCause {T = U} w0 w2 d0 d2 worse (Err f)
-cause_later w0 w1 w2 d0 d1 d2 bad worse WriteFault w d up h = omega (arith, w, h)
-cause_later w0 w1 w2 d0 d1 d2 bad worse DiskFault w d up h = omega (arith, d, h)
-cause_later w0 w1 w2 d0 d1 d2 bad worse (BadStore file place kind) w d up h = up file place kind h
-cause_later w0 w1 w2 d0 d1 d2 bad worse NoMemory w d up h = tt
+pub cause_later : (w0 w1 w2 d0 d1 d2 : ℕ) (bad worse : ℕ → ℕ → FormKind → Type 0) (T U : Type 0) (f : AnswerFault) → w0 ≤ w1 → d0 ≤ d1 → ((file place : ℕ) (kind : FormKind) → bad file place kind → worse file place kind) → HasAnswerCause {T = T} w1 w2 d1 d2 bad (Err f) → HasAnswerCause {T = U} w0 w2 d0 d2 worse (Err f)
+cause_later w0 w1 w2 d0 d1 d2 bad worse T U WriteFault w d up h = omega (arith, w, h)
+cause_later w0 w1 w2 d0 d1 d2 bad worse T U DiskFault w d up h = omega (arith, d, h)
+cause_later w0 w1 w2 d0 d1 d2 bad worse T U (BadStore file place kind) w d up h = up file place kind h
+cause_later w0 w1 w2 d0 d1 d2 bad worse T U NoMemory w d up h = tt
 
 -- a cause of the disk alone
-pub cause_of_disk : (w0 w1 d0 d1 d2 : ℕ) (bad worse : ℕ → ℕ → FormKind → Type 0) {T U : Type 0} (f : AnswerFault) → d0 ≤ d1 → ((file place : ℕ) (kind : FormKind) → bad file place kind → worse file place kind) → HasAnswerCause {T = T} 0 0 d1 d2 bad (Err f) → HasAnswerCause {T = U} w0 w1 d0 d2 worse (Err f)
-cause_of_disk w0 w1 d0 d1 d2 bad worse WriteFault d up h = absurd (omega (arith, h))
-cause_of_disk w0 w1 d0 d1 d2 bad worse DiskFault d up h = omega (arith, d, h)
-cause_of_disk w0 w1 d0 d1 d2 bad worse (BadStore file place kind) d up h = up file place kind h
-cause_of_disk w0 w1 d0 d1 d2 bad worse NoMemory d up h = tt
+pub cause_of_disk : (w0 w1 d0 d1 d2 : ℕ) (bad worse : ℕ → ℕ → FormKind → Type 0) (T U : Type 0) (f : AnswerFault) → d0 ≤ d1 → ((file place : ℕ) (kind : FormKind) → bad file place kind → worse file place kind) → HasAnswerCause {T = T} 0 0 d1 d2 bad (Err f) → HasAnswerCause {T = U} w0 w1 d0 d2 worse (Err f)
+cause_of_disk w0 w1 d0 d1 d2 bad worse T U WriteFault d up h = absurd (omega (arith, h))
+cause_of_disk w0 w1 d0 d1 d2 bad worse T U DiskFault d up h = omega (arith, d, h)
+cause_of_disk w0 w1 d0 d1 d2 bad worse T U (BadStore file place kind) d up h = up file place kind h
+cause_of_disk w0 w1 d0 d1 d2 bad worse T U NoMemory d up h = tt
 
 -- and of the sink alone
-pub cause_of_sink : (w0 w1 w2 d0 d1 : ℕ) (worse : ℕ → ℕ → FormKind → Type 0) {T U : Type 0} (f : AnswerFault) → w0 ≤ w1 → HasAnswerCause {T = T} w1 w2 0 0 (λ file place kind. ⊥) (Err f) → HasAnswerCause {T = U} w0 w2 d0 d1 worse (Err f)
-cause_of_sink w0 w1 w2 d0 d1 worse WriteFault w h = omega (arith, w, h)
-cause_of_sink w0 w1 w2 d0 d1 worse DiskFault w h = absurd (omega (arith, h))
-cause_of_sink w0 w1 w2 d0 d1 worse (BadStore file place kind) w h = absurd h
-cause_of_sink w0 w1 w2 d0 d1 worse NoMemory w h = tt
+pub cause_of_sink : (w0 w1 w2 d0 d1 : ℕ) (worse : ℕ → ℕ → FormKind → Type 0) (T U : Type 0) (f : AnswerFault) → w0 ≤ w1 → HasAnswerCause {T = T} w1 w2 0 0 (λ file place kind. ⊥) (Err f) → HasAnswerCause {T = U} w0 w2 d0 d1 worse (Err f)
+cause_of_sink w0 w1 w2 d0 d1 worse T U WriteFault w h = omega (arith, w, h)
+cause_of_sink w0 w1 w2 d0 d1 worse T U DiskFault w h = absurd (omega (arith, h))
+cause_of_sink w0 w1 w2 d0 d1 worse T U (BadStore file place kind) w h = absurd h
+cause_of_sink w0 w1 w2 d0 d1 worse T U NoMemory w h = tt
 
 -- the one partition that was to be read is blamed
 pub blamed_one : (s : OpenStore) (tells : Bool) (c : Contents) (i file place : ℕ) (kind : FormKind) → i < length s.manifest.parts → file ≡ part_file s.manifest i → (IsTrue tells → IsRefused s i (c file) place kind) → IsBlamed s tells c i 1 file place kind
@@ -122,3 +125,29 @@ blamed_one s tells c i file place kind there is refused =
       file_is = subst (λ (n : ℕ). file ≡ part_file s.manifest n) e is;
       refused = λ t. subst (λ (n : ℕ). IsRefused s n (c file) place kind) e (refused t);
     }
+
+-- the edge that stands for none
+abbrev pub no_born : Born
+no_born = record { edge = record { src = record { 0 = 0 }; label = record { 0 = 0 }; dst = record { 0 = 0 } }; birth = 0 }
+
+-- one edge more
+module _ (show : Show) (names : List (List ℕ)) (edges : List Born) (i : ℕ) (d : Born) (there : i < length edges) where
+  pub text_more : shown_text show names (take (i + 1) edges) ≡ shown_text show names (take i edges) ++ shown_text show names (get_or edges i d ∷ [])
+  text_more = ap (λ (l : List Born). shown_text show names l) (take_more edges i d there) ∙ shown_text-append show names (take i edges) (get_or edges i d ∷ [])
+
+  pub number_more : length (shown_in show names (take (i + 1) edges)) ≡ length (shown_in show names (take i edges)) + length (shown_in show names (get_or edges i d ∷ []))
+  number_more = ap (λ (l : List Born). length (shown_in show names l)) (take_more edges i d there) ∙ shown_number show names (take i edges) (get_or edges i d ∷ [])
+
+  pub number_few : length (shown_in show names (take (i + 1) edges)) ≤ length edges
+  number_few = omega (arith, there, length-filter (is_shown show names) (take (i + 1) edges), count_by-le-length (is_shown show names) (take (i + 1) edges), length-take (i + 1) edges)
+
+  pub edge_gathered : (a b c : Option (List ℕ)) (p q r : List ℕ) → HasGathered a p b q (shown_text show names (take i edges)) → HasGathered b q c r (shown_text show names (get_or edges i d ∷ [])) → HasGathered a p c r (shown_text show names (take (i + 1) edges))
+  edge_gathered a b c p q r g h = subst (λ (l : List ℕ). HasGathered a p c r l) (sym text_more) (gathers_then {U = Unit {0}} {F = Unit {0}} a b c p q r (Ok tt) (shown_text show names (take i edges)) (shown_text show names (get_or edges i d ∷ [])) g h)
+
+  -- it failed, so a prefix of the whole was taken
+  pub edge_failed : (a b c : Option (List ℕ)) (p q : List ℕ) → HasGathered a p b q (shown_text show names (take i edges)) → AppendsPrefix b c (q ++ shown_text show names (get_or edges i d ∷ [])) → AppendsPrefix a c (p ++ shown_text show names edges)
+  edge_failed a b c p q g h =
+      let front = gathers_then {U = Unit {0}} {F = Unit {0}} a b c p q q (Err tt) (shown_text show names (take i edges)) (shown_text show names (get_or edges i d ∷ [])) g h in
+      let more = gathers_longer a c p (shown_text show names (take (i + 1) edges)) (shown_text show names (drop (i + 1) edges)) (subst (λ (l : List ℕ). AppendsPrefix a c (p ++ l)) (sym text_more) front) in
+      let whole : shown_text show names edges ≡ shown_text show names (take (i + 1) edges) ++ shown_text show names (drop (i + 1) edges) = ap (λ (l : List Born). shown_text show names l) (sym (take-append-drop (i + 1) edges)) ∙ shown_text-append show names (take (i + 1) edges) (drop (i + 1) edges) in
+      subst (λ (l : List ℕ). AppendsPrefix a c (p ++ l)) (sym whole) more
