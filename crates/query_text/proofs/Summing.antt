@@ -1,6 +1,10 @@
 -- The counts of a row, one after the other, and the lines of partitions.
 use Rattle.std.proofs.Common.{◌≡◌, ℕ, zero, suc, ◌+◌, ◌-◌, ◌*◌, ◌^◌, ◌<◌, ◌≤◌, List, [], ◌∷◌, ◌++◌, length, take, drop, get_or, refl, sym, subst, ap, ◌∙◌, arith, append_assoc, append-nil, take-append-drop}
-use Rattle.std.specs.Prelude.{map, slice_index_or}
+use Rattle.std.specs.Prelude.{map, slice_index_or, Option, Err}
+use Rattle.std.specs.Io.KnownBytes.{Appends}
+use Rattle.std.proofs.KnownBytes.{Appends-trans}
+use Rattle.io_edge.specs.Devices.{AppendsPrefix}
+use Rattle.io_edge.proofs.DeviceLemmas.{AppendsPrefix-more, takes_more}
 use Rattle.std.proofs.Math.Nat.{mul-le-mul}
 use Rattle.std.proofs.lemmas.List.{take_more, get_or-map, length-take}
 use Rattle.closing_machine.specs.Machine.{high, low}
@@ -80,3 +84,30 @@ parts_front m parts i = (_, ap (λ (l : List PartEntry). part_lines m 0 0 l) (sy
 -- where the next partition ends
 pub end_next : (parts : List PartEntry) (i : ℕ) (d : PartEntry) → i < length parts → end_of parts (i + 1) ≡ (get_or parts i d).hi
 end_next parts i d below = let e : i + 1 ≡ suc i = omega arith in ap (λ (n : ℕ). end_of parts n) e ∙ get_or-map (λ (p : PartEntry). p.hi) parts i d 0 below
+
+-- ---- printing them
+module _ (m : Manifest) (items : List PartEntry) (i : ℕ) (d : PartEntry) (lo edges : ℕ) (line : List ℕ) (same : items ≡ m.parts) (there : i < length items) (lo_is : lo ≡ end_of m.parts i) (edges_is : edges ≡ edges_in m i) (line_is : line ≡ part_line i lo (get_or items i d).hi edges) where
+  below : i < length m.parts
+  below = subst (λ (l : List PartEntry). i < length l) same there
+
+  line_here : line ≡ part_line i (end_of m.parts i) (get_or m.parts i d).hi (edges_in m i)
+  line_here =
+      line_is
+      ∙ ap (λ (l : List PartEntry). part_line i lo (get_or l i d).hi edges) same
+      ∙ ap (λ (n : ℕ). part_line i n (get_or m.parts i d).hi edges) lo_is
+      ∙ ap (λ (n : ℕ). part_line i (end_of m.parts i) (get_or m.parts i d).hi n) edges_is
+
+  more : part_lines m 0 0 (take i m.parts) ++ line ≡ part_lines m 0 0 (take (i + 1) m.parts)
+  more = ap (λ (t : List ℕ). part_lines m 0 0 (take i m.parts) ++ t) line_here ∙ sym (parts_more m m.parts i d below)
+
+  pub part_taken : (a b c : Option (List ℕ)) → Appends a b (part_lines m 0 0 (take i m.parts)) → Appends b c line → Appends a c (part_lines m 0 0 (take (i + 1) m.parts))
+  part_taken a b c p q = subst (λ (t : List ℕ). Appends a c t) more (Appends-trans a b c (part_lines m 0 0 (take i m.parts)) line p q)
+
+  pub part_failed : (a b c : Option (List ℕ)) → Appends a b (part_lines m 0 0 (take i m.parts)) → AppendsPrefix b c line → AppendsPrefix a c (part_lines m 0 0 m.parts)
+  part_failed a b c p q =
+      let front = subst (λ (t : List ℕ). AppendsPrefix a c t) more (takes_more {T = Unit {0}} {E = Unit {0}} a b c (Err tt) (part_lines m 0 0 (take i m.parts)) line p q) in
+      let rest = parts_front m m.parts (i + 1) in
+      subst (λ (t : List ℕ). AppendsPrefix a c t) (sym rest.1) (AppendsPrefix-more a c (part_lines m 0 0 (take (i + 1) m.parts)) rest.0 front)
+
+  pub end_is : (get_or items i d).hi ≡ end_of m.parts (i + 1)
+  end_is = ap (λ (l : List PartEntry). (get_or l i d).hi) same ∙ sym (end_next m.parts i d below)

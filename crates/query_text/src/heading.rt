@@ -67,8 +67,9 @@ fn print_all<O: Sink>(m: &Manifest, sink: &mut O) -> Result<(), Failed>
     ensures taken { (state : List ℕ) × IsStateLine m.now state × Takes (O.told sink.old) (O.told sink.new) result (head_text m.now ++ state) }
     ensures cause { HasCause (O.faults sink.old) (O.faults sink.new) result }
 {
+    let state = state_line(m);
     print_head(m, sink)?;
-    sink.write(state_line(m).as_slice())
+    sink.write(state.as_slice())
 }
 
 /// Prints what the manifest says of vertices and partitions: `vertices` and their number, and for each
