@@ -1,21 +1,32 @@
 -- The partitions that were read are those that the contents list.
-use Rattle.std.proofs.Common.{◌≡◌, ℕ, zero, suc, ◌+◌, ◌≤◌, ◌<◌, List, [], ◌∷◌, ◌++◌, length, take, drop, get_or, Result, Ok, Err, Option, Some, refl, sym, subst, ap, ◌∙◌, append-nil, take-append-drop, arith}
-use Rattle.std.specs.Prelude.{Bool, IsTrue, IfOk, slice_index_or}
-use Rattle.std.proofs.lemmas.List.{ext_get_or}
+use Rattle.std.proofs.Common.{◌≡◌, ℕ, zero, suc, ◌+◌, ◌-◌, ◌≤◌, ◌<◌, List, [], ◌∷◌, ◌++◌, length, take, drop, get_or, Result, Ok, Err, Option, Some, None, refl, sym, subst, ap, ◌∙◌, append-nil, take-append-drop, arith}
+use Rattle.std.specs.Prelude.{Bool, IsTrue, IfOk, map, slice_index_or}
+use Rattle.std.specs.List.{flat_map}
+use Rattle.std.proofs.lemmas.Grind.{flat_map-append}
+use Rattle.std.proofs.lemmas.List.Elements.{filter-append}
+use Rattle.std.proofs.lemmas.List.{ext_get_or, length-map}
 use Rattle.graph_words.specs.declared.types.Born.{Born}
+use Rattle.graph_words.specs.declared.types.LabelId.{LabelId}
+use Rattle.normal_law.specs.NormalForm.{normal_form}
 use Rattle.std.specs.Io.KnownBytes.{Appends}
 use Rattle.io_edge.specs.Devices.{AppendsPrefix, Takes}
 use Rattle.io_edge.proofs.DeviceLemmas.{AppendsPrefix-more}
-use Rattle.closing_machine.specs.State.{IsCut}
+use Rattle.closing_machine.specs.State.{place}
 use Rattle.closing_machine.specs.Parts.{all_edges}
 use Rattle.disk_model.specs.Disk.{Contents}
+use Rattle.intervals.specs.Bounds.{LiesIn, low_of, vertices_of}
+use Rattle.manifest.specs.declared.types.PartEntry.{PartEntry}
+use Rattle.manifest.specs.Spelling.{Cover}
 use Rattle.partition_file.specs.Spelling.{IsExpect, Part}
 use Rattle.partition_file.proofs.FileLaws.{one_part}
 use Rattle.store_law.specs.Listed.{AreListed, ends_of, part_of}
-use Rattle.store_law.proofs.Intervals.{cut_from_cover}
+use Rattle.store_law.proofs.Intervals.{cut_from_cover, listed_partitions}
 use Rattle.open_store.specs.Store.{IsOpenStore, OpenStore, expect_in}
-use Rattle.query_text.specs.Answered.{AreListedIn, AreRead, IsPrinted}
+use Rattle.open_store.proofs.Places.{cut_of_cover, place_of_lies}
+use Rattle.query_text.specs.Answered.{AreListedIn, AreRead, IsPrinted, first_asked, wanted}
+use Rattle.query_text.specs.Text.{answer_line, answers_in, answers_text, is_answer}
 use Rattle.query_text.specs.declared.fault.AnswerFault.{AnswerFault}
+use Rattle.query_text.proofs.Places.{answers_from}
 use Rattle.query_text.proofs.Reading.{all_edges-append, ends_within}
 
 module _ (s : OpenStore) (o : IsOpenStore s) where
@@ -76,3 +87,50 @@ module _ (s : OpenStore) (o : IsOpenStore s) (tells : Bool) (t : IsTrue tells) (
   listed_one text i a b (Err f) [] none here p = AppendsPrefix-more a b [] (text (all_edges parts)) (subst (λ (l : List ℕ). AppendsPrefix a b l) none p.taken)
   listed_one text i a b (Err f) (q ∷ []) none here p = subst (λ (l : List ℕ). AppendsPrefix a b l) (ap text (single i q p.are_read) ∙ sym here) p.taken
   listed_one text i a b (Err f) (q ∷ r ∷ more) none here p = absurd (omega (arith, p.few))
+
+-- ---- the partitions that are asked for
+vertices_from : (top from : ℕ) (parts : List PartEntry) → Cover top from parts → slice_index_or (from ∷ map (λ p. p.hi) parts) (length (map (λ (p : PartEntry). p.hi) parts)) 0 ≡ top
+vertices_from top from [] cover = cover
+vertices_from top from (p ∷ ps) cover = vertices_from top p.hi ps cover.1
+
+same_low : (ends : List ℕ) (k : ℕ) → slice_index_or (0 ∷ ends) k 0 ≡ low_of ends k
+same_low ends zero = refl
+same_low ends (suc k) = refl
+
+module _ (s : OpenStore) (o : IsOpenStore s) (ends : List ℕ) (same : ends ≡ s.ends) where
+  pub asked_below : (u : ℕ) → u < s.manifest.vertices → u < vertices_of ends
+  asked_below u below =
+      let whole : vertices_of (ends_of s.manifest) ≡ s.manifest.vertices = sym (same_low (ends_of s.manifest) (length (ends_of s.manifest))) ∙ vertices_from s.manifest.vertices 0 s.manifest.parts o.fits.cover in
+      subst (λ (l : List ℕ). u < vertices_of l) (sym (same ∙ o.ends_are)) (omega (arith, below, whole))
+
+  pub asked_place : (i u : ℕ) → LiesIn ends i u → i ≡ place (ends_of s.manifest) u
+  asked_place i u lies =
+      sym (place_of_lies (ends_of s.manifest) i u (cut_of_cover s.manifest.vertices s.manifest.parts o.fits.cover) (subst (λ (l : List ℕ). LiesIn l i u) (same ∙ o.ends_are) lies))
+
+  pub ends_many : length ends ≡ length s.manifest.parts
+  ends_many = ap (λ (l : List ℕ). length l) (same ∙ o.ends_are) ∙ length-map s.manifest.parts (λ (p : PartEntry). p.hi)
+
+-- what holds of partitions from one number to before another holds of so many from the first on
+pub at_asked : (P : ℕ → ℕ → Type 0) (first end f w : ℕ) → first ≡ f → end ≡ f + w → P first (end - first) → P f w
+at_asked P first end f w is end_is h =
+    let e : end - first ≡ w = omega (arith, is, end_is) in
+    subst (λ (n : ℕ). P n w) is (subst (λ (n : ℕ). P first n) e h)
+
+module _ (s : OpenStore) (o : IsOpenStore s) (tells : Bool) (t : IsTrue tells) (c : Contents) (parts : List (List Born)) (listed : AreListedIn s c parts) (label : LabelId) (to : Option ℕ) where
+  here : (u : ℕ) → answers_in label (Some u) to (all_edges parts) ≡ answers_in label (Some u) to (slice_index_or parts (place (ends_of s.manifest) u) [])
+  here u = answers_from (ends_of s.manifest) parts s.manifest.vertices label u to (cut_from_cover s.manifest.vertices 0 s.manifest.parts o.fits.cover) (listed_partitions c s.manifest (normal_form s.rules).fresh parts listed)
+
+  joins : (xs ys : List Born) → answers_text label None to (xs ++ ys) ≡ answers_text label None to xs ++ answers_text label None to ys
+  joins xs ys = ap (λ (l : List Born). flat_map answer_line l) (filter-append (is_answer label None to) xs ys) ∙ flat_map-append answer_line (answers_in label None to xs) (answers_in label None to ys)
+
+  pub answers_listed : (from : Option ℕ) (a b : Option (List ℕ)) (result : Result ℕ AnswerFault) (read : List (List Born)) → IsPrinted s tells c (first_asked s from) (wanted s from) (answers_text label from to) a b result read → Takes a b result (answers_text label from to (all_edges parts))
+  answers_listed None a b result read p = listed_all s o tells t c parts listed (answers_text label None to) a b result read joins p
+  answers_listed (Some u) a b result read p = listed_one s o tells t c parts listed (answers_text label (Some u) to) (place (ends_of s.manifest) u) a b result read refl (ap (λ (l : List Born). flat_map answer_line l) (here u)) p
+
+  pub answers_counted : (from : Option ℕ) (a b : Option (List ℕ)) (result : Result ℕ AnswerFault) (read : List (List Born)) → IsPrinted s tells c (first_asked s from) (wanted s from) (answers_text label from to) a b result read → IfOk result (λ n. n ≡ length (answers_in label from to (all_edges read))) → IfOk result (λ n. n ≡ length (answers_in label from to (all_edges parts)))
+  answers_counted from a b (Err f) read p is = tt
+  answers_counted None a b (Ok n) read p is = is ∙ ap (λ (l : List (List Born)). length (answers_in label None to (all_edges l))) (read_all s o tells t c parts listed read p.are_read p.all)
+  answers_counted (Some u) a b (Ok n) read p is =
+      is
+      ∙ ap (λ (l : List Born). length (answers_in label (Some u) to l)) (read_single s o tells t c parts listed (place (ends_of s.manifest) u) read p.are_read p.all)
+      ∙ ap (λ (l : List Born). length l) (sym (here u))
