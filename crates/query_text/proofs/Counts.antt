@@ -1,6 +1,6 @@
 -- Edges are counted by their labels, and the counts printed.
 use Rattle.std.proofs.Common.{◌≡◌, ◌≢◌, ℕ, zero, suc, ◌+◌, ◌^◌, ◌<◌, ◌≤◌, List, [], ◌∷◌, ◌++◌, length, take, drop, get_or, refl, sym, subst, ap, ◌∙◌, arith, inl, inr, append_assoc, append-nil, take-append-drop, length-append, Option, Ok, Err}
-use Rattle.std.specs.Prelude.{slice_index_or, slice_set, count_by, IsTrue, Bool, true, false, cond, ◌==◌}
+use Rattle.std.specs.Prelude.{slice_index_or, slice_set, IsTrue, Bool, cond, ◌==◌}
 use Rattle.std.proofs.lemmas.Bool.{cases_eq, cases_lt}
 use Rattle.std.proofs.lemmas.Bool.Decides.{nat_tests}
 use Rattle.std.proofs.lemmas.List.{get_or-set_same, get_or-set_other, length-set, get_or_past, length-take, take_all, take_more}
@@ -84,9 +84,17 @@ lines_more names edges i d below =
 pub lines_front : (names : List (List ℕ)) (edges : List Born) (i : ℕ) → tally_text names edges ≡ tally_text (take i names) edges ++ label_lines (0 + length (take i names)) (drop i names) edges
 lines_front names edges i = ap (λ (l : List (List ℕ)). tally_text l edges) (sym (take-append-drop i names)) ∙ lines_append 0 (take i names) (drop i names) edges
 
+-- within a list it doesn't matter what stands for no item
+item_is : (xs : List ℕ) (i d e : ℕ) → i < length xs → slice_index_or xs i d ≡ slice_index_or xs i e
+item_is [] i d e below = absurd (omega (arith, below))
+item_is (x ∷ xs) zero d e below = refl
+item_is (x ∷ xs) (suc i) d e below = item_is xs i d e (omega (arith, below))
+
 -- an edge whose label has number k
-pub tallied_at : (named : ℕ) (edges : List Born) (counts : List ℕ) (b : Born) (k n : ℕ) → k ≡ b.edge.label.0 → n ≡ slice_index_or counts k 0 → AreTallied named edges counts → AreTallied named (edges ++ b ∷ []) (slice_set counts k (n + 1))
-tallied_at named edges counts b k n at is t = rw (is, at) (tallied_in named edges counts b t)
+pub tallied_at : (named : ℕ) (edges : List Born) (counts : List ℕ) (b : Born) (k n : ℕ) → k ≡ b.edge.label.0 → k < length counts → n ≡ slice_index_or counts k n → AreTallied named edges counts → AreTallied named (edges ++ b ∷ []) (slice_set counts k (n + 1))
+tallied_at named edges counts b k n at there is t =
+    let value : n ≡ slice_index_or counts b.edge.label.0 0 = is ∙ item_is counts k n 0 there ∙ ap (λ (j : ℕ). slice_index_or counts j 0) at in
+    subst (λ (j : ℕ). AreTallied named (edges ++ b ∷ []) (slice_set counts j (n + 1))) (sym at) (subst (λ (v : ℕ). AreTallied named (edges ++ b ∷ []) (slice_set counts b.edge.label.0 (v + 1))) (sym value) (tallied_in named edges counts b t))
 
 -- the edges of a slice, one more
 pub edges_more : (before edges : List Born) (i : ℕ) (d : Born) → i < length edges → (before ++ take i edges) ++ get_or edges i d ∷ [] ≡ before ++ take (i + 1) edges

@@ -1,5 +1,5 @@
 -- The lines of edges, part by part.
-use Rattle.std.proofs.Common.{◌≡◌, ℕ, ◌+◌, ◌-◌, ◌^◌, ◌≤◌, ◌<◌, List, [], ◌∷◌, ◌++◌, length, Result, Ok, Err, Option, refl, sym, subst, ap, ◌∙◌, append_assoc, append-nil, take, drop, get_or, take-append-drop, arith, length-append}
+use Rattle.std.proofs.Common.{◌≡◌, ℕ, ◌+◌, ◌-◌, ◌^◌, ◌≤◌, ◌<◌, List, [], ◌∷◌, ◌++◌, length, Result, Ok, Err, Option, refl, sym, subst, ap, ◌∙◌, append-nil, take, drop, get_or, take-append-drop, arith, length-append}
 use Rattle.std.specs.Prelude.{Bool, IsTrue, IsErrAnd, IfOk}
 use Rattle.std.specs.List.{flat_map}
 use Rattle.std.proofs.lemmas.Grind.{flat_map-append}

@@ -1,5 +1,4 @@
-use Rattle.std.proofs.Common.{ℕ, List, [], length, ap, sym, subst, arith}
-use Rattle.std.specs.Prelude.{IfOk}
+use Rattle.std.proofs.Common.{ℕ, List, [], length, sym, subst, arith}
 use Rattle.graph_words.specs.declared.types.Born.{Born}
 use Rattle.io_edge.specs.Devices.{Takes}
 use Rattle.closing_machine.specs.Parts.{all_edges}
@@ -24,4 +23,10 @@ returns-clause-listed g c = λ told parts listed.
     let sink = g.O.Sink.told in
     let s = c.args.store.now in
     let t = c.in_ok-counts.ensures.tallied in
-    ?
+    let o = c.manifest.ensures.store in
+    let same = c.manifest.ensures.manifest in
+    let is = read_all s o D.tells told (D.seen c.args.disk.now) parts listed t.0 t.1 t.2 in
+    let counted = subst (λ (m : Manifest). AreTallied (length m.labels) (all_edges t.0) c.deref.result.now) (sym same) (subst (λ (l : List ℕ). AreTallied (length s.manifest.labels) (all_edges t.0) l) (sym c.deref.ensures.value) t.3) in
+    let takes = c.print_lines.ensures.taken (all_edges t.0) counted in
+    let named = subst (λ (m : Manifest). Takes (sink c.args.sink.now) (sink c.print_lines.new.sink) c.print_lines.result (tally_text m.labels (all_edges t.0))) same takes in
+    subst (λ (l : List (List Born)). Takes (sink c.args.sink.now) (sink c.print_lines.new.sink) c.print_lines.result (tally_text s.manifest.labels (all_edges l))) is named
