@@ -278,6 +278,31 @@ fn refused(alloc: Global, call: Call) -> Result<Option<AnswerFault>, Fail> {
     Ok(print(alloc, &mut disk, &store, call, &mut sink).err())
 }
 
+// What a call answers where each call of the disk fails.
+fn failing_disk(alloc: Global, call: Call) -> Result<Option<AnswerFault>, Fail> {
+    let mut disk = MemDisk::new(alloc)?;
+    let Some(store) = finished(alloc, &mut disk)? else {
+        return Ok(None);
+    };
+    let mut numbers = Vec::new(alloc);
+    for number in 0..100 {
+        numbers.push(number)?;
+    }
+    disk.fail_calls(numbers);
+    let mut sink = MemSink::new(alloc);
+    Ok(print(alloc, &mut disk, &store, call, &mut sink).err())
+}
+
+#[test]
+fn a_failing_disk_is_told(rt: HostRuntime) -> Result<(), Fail> {
+    let fault = Some(AnswerFault::DiskFault);
+    for call in [Call::Tally, Call::Dump, Call::Answers(None, None)] {
+        assert_eq!(rt; failing_disk(rt.alloc(), call)?, fault);
+    }
+    assert_eq!(rt; failing_disk(rt.alloc(), Call::Parts)?, None);
+    Ok(())
+}
+
 #[test]
 fn a_failing_write_is_told(rt: HostRuntime) -> Result<(), Fail> {
     let fault = Some(AnswerFault::WriteFault);
