@@ -1,0 +1,158 @@
+-- A partition is put, and the manifest that is made tells of it.
+use Rattle.std.proofs.Common.{◌≡◌, ◌≢◌, ℕ, ◌+◌, ◌*◌, ◌<◌, ◌≤◌, ◌==◌, ◌⊎◌, Bool, true, false, cond, List, length, get_or, refl, sym, ap, ◌∙◌, subst, arith, inl, inr, Option, Some, None}
+use Rattle.std.specs.Prelude.{map, All, AllPairs, Contains, IsTrue, slice_index_or, slice_set}
+use Rattle.std.proofs.lemmas.Bool.Decides.{nat_tests}
+use Rattle.std.proofs.lemmas.List.{get_or-map, get_or-set_other, get_or-set_same, length-map, length-set}
+use Rattle.std.proofs.lemmas.List.Elements.{All-contains}
+use Rattle.graph_words.specs.declared.types.Born.{Born}
+use Rattle.closing_machine.specs.State.{greatest_birth}
+use Rattle.closing_machine.proofs.Members.{either}
+use Rattle.disk_model.specs.Disk.{Contents, Sets}
+use Rattle.disk_files.specs.Files.{only_set}
+use Rattle.partition_file.specs.declared.types.Format.TheVariants.{First}
+use Rattle.partition_file.specs.Spelling.{Part, Spells, spelling}
+use Rattle.dest_map.specs.Table.{counts_of, entry}
+use Rattle.pair_sched.specs.Marks.{joined_of, newest_of}
+use Rattle.manifest.specs.declared.types.PartEntry.{PartEntry}
+use Rattle.manifest.specs.declared.types.Manifest.{Manifest}
+use Rattle.store_law.specs.Listed.{ends_of, part_file}
+use Rattle.store_law.specs.Steps.{IsFree}
+use Rattle.open_store.specs.Reading.{count_into}
+use Rattle.open_store.specs.Streaming.{IsTally}
+use Rattle.open_store.specs.Store.{OpenStore}
+use Rattle.open_store.proofs.Tallies.{ends_count}
+use Rattle.closer.specs.Making.{ArePut, ArePut2, IsWell, MayPut, MayPutPair, Puts, Refiles, Replaces, Spares, TakesOn}
+use Rattle.closer.proofs.Flat.{is_it}
+use Rattle.closer.proofs.Images.{spares_only, spares_refl}
+
+-- ---- the files
+
+module _ (a file : ℕ) (before after : List PartEntry) (r : Refiles a file before after) (there : a < length before) where
+  files_of : List PartEntry → List ℕ
+  files_of l = map (λ p. p.file) l
+
+  pub same_length : length after ≡ length before
+  same_length = sym (length-map after (λ (p : PartEntry). p.hi)) ∙ ap (λ (l : List ℕ). length l) r.his ∙ length-map before (λ (p : PartEntry). p.hi)
+
+  pub file_here : slice_index_or (map (λ (p : PartEntry). p.file) after) a 0 ≡ file
+  file_here = ap (λ (l : List ℕ). get_or l a 0) r.files ∙ get_or-set_same (map (λ (p : PartEntry). p.file) before) a file 0 (omega (arith, there, length-map before (λ (p : PartEntry). p.file)))
+
+  pub file_else : (x : ℕ) → x ≢ a → slice_index_or (map (λ (p : PartEntry). p.file) after) x 0 ≡ slice_index_or (map (λ (p : PartEntry). p.file) before) x 0
+  file_else x ne = ap (λ (l : List ℕ). get_or l x 0) r.files ∙ get_or-set_other (map (λ (p : PartEntry). p.file) before) a x file 0 ne
+
+  -- the file of an entry
+  after_here : (i : ℕ) (d : PartEntry) → i < length after → i ≡ a → (get_or after i d).file ≡ file
+  after_here i d lt e = sym (get_or-map (λ (p : PartEntry). p.file) after i d 0 lt) ∙ ap (λ (x : ℕ). get_or (map (λ (p : PartEntry). p.file) after) x 0) e ∙ file_here
+
+  after_else : (i : ℕ) (d : PartEntry) → i < length after → i ≢ a → (get_or after i d).file ≡ (get_or before i d).file
+  after_else i d lt ne = sym (get_or-map (λ (p : PartEntry). p.file) after i d 0 lt) ∙ file_else i ne ∙ get_or-map (λ (p : PartEntry). p.file) before i d 0 (omega (arith, lt, same_length))
+
+  pub files_after : 4 ≤ file → file < 1024 → All (λ p. (4 ≤ p.file) × (p.file ≤ 1023)) before → All (λ p. (4 ≤ p.file) × (p.file ≤ 1023)) after
+  files_after least most all i d lt =
+      either (λ e. let h = after_here i d lt e in (omega (arith, h, least), omega (arith, h, most))) (λ ne. let h = after_else i d lt ne in let o = all i d (omega (arith, lt, same_length)) in (omega (arith, h, o.0), omega (arith, h, o.1))) (is_it i a)
+
+  pub once_after : All (λ p. p.file ≢ file) before → AllPairs (λ p q. p.file ≢ q.file) before → AllPairs (λ p q. p.file ≢ q.file) after
+  once_after untaken once i j d lt low same =
+      let li : i < length after = omega (arith, lt, low) in
+      either
+      (λ e.
+      let nj : j ≢ a = λ f. omega (arith, e, f, lt) in
+      untaken j d (omega (arith, low, same_length)) (sym (after_else j d low nj) ∙ sym same ∙ after_here i d li e))
+      (λ ni.
+      either (λ f. untaken i d (omega (arith, li, same_length)) (sym (after_else i d li ni) ∙ same ∙ after_here j d low f)) (λ nj. once i j d lt (omega (arith, low, same_length)) (sym (after_else i d li ni) ∙ same ∙ after_else j d low nj)) (is_it j a))
+      (is_it i a)
+
+-- ---- the manifest that is made
+
+pub takes_new : (round a file newest : ℕ) (ends : List ℕ) (edges : List Born) (row : List ℕ) (next after : Manifest) (b : Born) → a < length next.parts → IsWell next → Replaces next a file row newest after → 4 ≤ file → file < 1024 → All (λ p. p.file ≢ file) next.parts → ends ≡ ends_of next → IsTally ends edges row newest → Contains edges b → round ≤ b.birth → TakesOn round a edges next after
+takes_new round a file newest ends edges row next after b there well r least most untaken are tally has new =
+    let len = same_length a file next.parts after.parts r.refiles there in
+    record {
+      generation = r.generation;
+      round_is = r.round_is;
+      vertices = r.vertices;
+      grammar_len = r.grammar_len;
+      edges_len = r.edges_len;
+      labels = r.labels;
+      ends = r.refiles.his;
+      well = record {
+          few = omega (arith, len, well.few);
+          files = files_after a file next.parts after.parts r.refiles there least most well.files;
+          once = once_after a file next.parts after.parts r.refiles there untaken well.once;
+          map = record { size = r.map_size ∙ well.map.size ∙ sym len; rows = r.map_rows ∙ ap (λ (x : ℕ). x * x) (well.map.size ∙ sym len) };
+          marks = record {
+              size = r.marks_size ∙ well.marks.size ∙ sym len;
+              rows = ap (λ (l : List ℕ). length l) r.joined ∙ well.marks.rows ∙ ap (λ (x : ℕ). x * x) (sym len);
+              births = r.births ∙ well.marks.births ∙ sym len;
+            };
+        };
+      joined = λ x y. λ i. entry (r.marks_size i) (r.joined i) x y;
+      counts = λ c lc. r.counts c (omega (arith, lc, well.map.size)) ∙ tally.counts c (omega (arith, lc, ends_count next, ap (λ (l : List ℕ). length l) are)) ∙ ap (λ (l : List ℕ). count_into l edges c) are;
+      newest = r.newest_is a ∙ here (a == a) (grind (arith, nat_tests)) ∙ tally.newest_is;
+      other_counts = r.other_counts;
+      other_newest = λ x ne. r.newest_is x ∙ there_else (x == a) x (grind (arith, nat_tests));
+      other_files = λ x ne. file_else a file next.parts after.parts r.refiles there x ne;
+      kept = λ old. absurd (let h = All-contains (λ (c : Born). c.birth < round) edges b old has in omega (arith, h, new));
+    }
+  where
+    here : (t : Bool) → t ≡ true → cond t newest (newest_of next.marks a) ≡ newest
+    here t e = rw e refl
+
+    there_else : (t : Bool) (x : ℕ) → t ≡ false → cond t newest (newest_of next.marks x) ≡ newest_of next.marks x
+    there_else t x e = rw e refl
+
+-- where no edge is new
+pub takes_none : (s : OpenStore) (tells : Bool) (c : Contents) (a : ℕ) (p : Part) (next : Manifest) → MayPut s tells c a p next → All (λ b. b.birth < s.manifest.round) p.edges → TakesOn s.manifest.round a p.edges next next
+takes_none s tells c a p next may old =
+    let told = may.told old in
+    record {
+      generation = refl;
+      round_is = refl;
+      vertices = refl;
+      grammar_len = refl;
+      edges_len = refl;
+      labels = refl;
+      ends = refl;
+      well = may.well;
+      joined = λ x y. refl;
+      counts = told.counts;
+      newest = told.newest;
+      other_counts = λ x b ne. refl;
+      other_newest = λ x ne. refl;
+      other_files = λ x ne. refl;
+      kept = λ older. refl;
+    }
+
+-- ---- the disk
+
+pub puts_new : (m : Manifest) (a file newest : ℕ) (row : List ℕ) (p : Part) (next after : Manifest) (old new : Contents) → a < length next.parts → Replaces next a file row newest after → IsFree m file → All (λ q. q.file ≢ file) next.parts → Sets file (spelling First p) old new → Puts m a p next after old new
+puts_new m a file newest row p next after old new there r free untaken sets =
+    record {
+      spares = spares_only m file old new free (only_set file (spelling First p) old new sets);
+      spelled = subst (λ (f : ℕ). Spells (new f) p) (sym (file_here a file next.parts after.parts r.refiles there)) (First, sets.here);
+      others = λ x lt ne. sets.others (part_file next x) (λ same. untaken x no_entry lt (sym (get_or-map (λ (q : PartEntry). q.file) next.parts x no_entry 0 lt) ∙ same));
+    }
+  where
+    no_entry : PartEntry
+    no_entry = record { hi = 0; file = 0 }
+
+pub puts_none : (s : OpenStore) (tells : Bool) (a : ℕ) (p : Part) (next : Manifest) (c : Contents) → MayPut s tells c a p next → IsTrue tells → All (λ b. b.birth < s.manifest.round) p.edges → Puts s.manifest a p next next c c
+puts_none s tells a p next c may tell old = record { spares = spares_refl s.manifest c; spelled = may.same tell old; others = λ x lt ne. refl }
+
+-- ---- the second of two
+
+pub may_put_then : (s : OpenStore) (tells : Bool) (c d : Contents) (a z : ℕ) (p q : Part) (next after : Manifest) → a ≢ z → MayPut s tells c z q next → TakesOn s.manifest.round a p.edges next after → (IsTrue tells → Puts s.manifest a p next after c d) → MayPut s tells d z q after
+may_put_then s tells c d a z p q next after apart may t put =
+    let ne : z ≢ a = λ e. apart (sym e) in
+    let len : length after.parts ≡ length next.parts = sym (ends_count after) ∙ ap (λ (l : List ℕ). length l) t.ends ∙ ends_count next in
+    record {
+      there = omega (arith, may.there, len);
+      part_is = may.part_is;
+      ends = t.ends ∙ may.ends;
+      well = t.well;
+      older = let h = may.older in let e = t.other_newest z ne in omega (arith, h, e);
+      told = λ old.
+          let told = may.told old in
+          record { counts = λ b lb. t.other_counts z b ne ∙ told.counts b (omega (arith, lb, len)) ∙ ap (λ (l : List ℕ). count_into l q.edges b) (sym t.ends); newest = t.other_newest z ne ∙ told.newest };
+      same = λ tell old. subst (λ (f : List ℕ). Spells f q) (sym (ap d (t.other_files z ne) ∙ (put tell).others z may.there ne)) (may.same tell old);
+    }
