@@ -38,6 +38,12 @@ is_it x y = by_test (x == y) refl
     by_test true e = inl (grind (arith, nat_tests))
     by_test false e = inr (λ same. let h : (x == y) ≡ true = grind (arith, nat_tests) in absurd (cc))
 
+pub among_first : (i j : ℕ) → is_among i j i ≡ true
+among_first i j = grind (arith, nat_tests)
+
+pub among_second : (i j : ℕ) → is_among i j j ≡ true
+among_second i j = grind (arith, nat_tests)
+
 -- what each of the loaded edges keeps
 pub edge_fits : (s : OpenStore) (a : ℕ) (p : Part) → IsPartIn s a p → (b : Born) → Contains p.edges b → FitsEdge (expect_in s a) b
 edge_fits s a p x b has = All-contains (FitsEdge (expect_in s a)) p.edges b x.fits.each has

@@ -1,8 +1,9 @@
 -- A partition is put, and the manifest that is made tells of it.
-use Rattle.std.proofs.Common.{◌≡◌, ◌≢◌, ℕ, ◌+◌, ◌*◌, ◌<◌, ◌≤◌, ◌==◌, ◌⊎◌, Bool, true, false, cond, List, length, get_or, refl, sym, ap, ◌∙◌, subst, arith, inl, inr, Option, Some, None}
+use Rattle.std.proofs.Common.{◌≡◌, ◌≢◌, ℕ, ◌+◌, ◌*◌, ◌<◌, ◌≤◌, ◌==◌, ◌⊎◌, ◌&&◌, Bool, true, false, cond, List, length, get_or, refl, sym, ap, ◌∙◌, subst, arith, inl, inr, Option, Some, None}
 use Rattle.std.specs.Prelude.{map, All, AllPairs, Contains, IsTrue, slice_index_or, slice_set}
 use Rattle.std.proofs.lemmas.Bool.Decides.{nat_tests}
-use Rattle.std.proofs.lemmas.List.{get_or-map, get_or-set_other, get_or-set_same, length-map, length-set}
+use Rattle.std.proofs.Math.Seq.{map-set_same}
+use Rattle.std.proofs.lemmas.List.{get_or-map, get_or-set_other, get_or-set_same, length-map, length-set, map-set}
 use Rattle.std.proofs.lemmas.List.Elements.{All-contains}
 use Rattle.graph_words.specs.declared.types.Born.{Born}
 use Rattle.closing_machine.specs.State.{greatest_birth}
@@ -12,6 +13,7 @@ use Rattle.disk_files.specs.Files.{only_set}
 use Rattle.partition_file.specs.declared.types.Format.TheVariants.{First}
 use Rattle.partition_file.specs.Spelling.{Part, Spells, spelling}
 use Rattle.dest_map.specs.Table.{counts_of, entry}
+use Rattle.dest_map.proofs.TableLemmas.{entry_set}
 use Rattle.pair_sched.specs.Marks.{joined_of, newest_of}
 use Rattle.manifest.specs.declared.types.PartEntry.{PartEntry}
 use Rattle.manifest.specs.declared.types.Manifest.{Manifest}
@@ -61,6 +63,41 @@ module _ (a file : ℕ) (before after : List PartEntry) (r : Refiles a file befo
       (λ ni.
       either (λ f. untaken i d (omega (arith, li, same_length)) (sym (after_else i d li ni) ∙ same ∙ after_here j d low f)) (λ nj. once i j d lt (omega (arith, low, same_length)) (sym (after_else i d li ni) ∙ same ∙ after_else j d low nj)) (is_it j a))
       (is_it i a)
+
+-- none of the entries has a file that is not among theirs
+pub files_untaken : (parts : List PartEntry) (files : List ℕ) (file : ℕ) → files ≡ map (λ p. p.file) parts → All (λ f. f ≢ file) files → All (λ p. p.file ≢ file) parts
+files_untaken parts files file are all k d lt same =
+    subst (λ (l : List ℕ). All (λ f. f ≢ file) l) are all k 0 (omega (arith, lt, length-map parts (λ (p : PartEntry). p.file))) (get_or-map (λ (p : PartEntry). p.file) parts k d 0 lt ∙ same)
+
+pub refiles_set : (before entries after : List PartEntry) (i file : ℕ) (e d : PartEntry) → entries ≡ before → i < length before → e.hi ≡ (get_or before i d).hi → e.file ≡ file → after ≡ slice_set entries i e → Refiles i file before after
+refiles_set before entries after i file e d same lt hi is set_is =
+    let made : after ≡ slice_set before i e = set_is ∙ ap (λ (l : List PartEntry). slice_set l i e) same in
+    record {
+      his = ap (λ (l : List PartEntry). map (λ (p : PartEntry). p.hi) l) made ∙ map-set_same (λ (p : PartEntry). p.hi) before i e d hi;
+      files = ap (λ (l : List PartEntry). map (λ (p : PartEntry). p.file) l) made ∙ map-set (λ (p : PartEntry). p.file) before i e ∙ ap (λ (f : ℕ). slice_set (map (λ (p : PartEntry). p.file) before) i f) is;
+    }
+
+-- a row is filled place by place
+pub row_more : (size i j x : ℕ) (xs row : List ℕ) (old : ℕ → ℕ → ℕ) → length xs ≡ size * size → i < size → j < size → x ≡ slice_index_or row j 0 → ((b : ℕ) → b < j → entry size xs i b ≡ slice_index_or row b 0) → (b : ℕ) → b < j + 1 → entry size (slice_set xs (i * size + j) x) i b ≡ slice_index_or row b 0
+row_more size i j x xs row old long li lj is here b lt =
+    either
+    (λ e. entry_set size i j x xs long li lj i b ∙ rw e (yes (i == i) (j == j) (grind (arith, nat_tests)) (grind (arith, nat_tests))) ∙ is ∙ ap (λ (y : ℕ). slice_index_or row y 0) (sym e))
+    (λ ne. entry_set size i j x xs long li lj i b ∙ no_second (i == i) (b == j) (grind (arith, nat_tests)) ∙ here b (omega (arith, lt, ne)))
+    (is_it b j)
+  where
+    yes : (t u : Bool) → t ≡ true → u ≡ true → cond (t && u) x (entry size xs i j) ≡ x
+    yes t u e f = rw (e, f) refl
+
+    no_second : (t u : Bool) → u ≡ false → cond (t && u) x (entry size xs i b) ≡ entry size xs i b
+    no_second true u e = rw e refl
+    no_second false u e = refl
+
+pub row_others : (size i j x : ℕ) (xs : List ℕ) (old : ℕ → ℕ → ℕ) → length xs ≡ size * size → i < size → j < size → ((y b : ℕ) → y ≢ i → entry size xs y b ≡ old y b) → (y b : ℕ) → y ≢ i → entry size (slice_set xs (i * size + j) x) y b ≡ old y b
+row_others size i j x xs old long li lj others y b ne =
+    entry_set size i j x xs long li lj y b ∙ no_first (y == i) (b == j) (grind (arith, nat_tests)) ∙ others y b ne
+  where
+    no_first : (t u : Bool) → t ≡ false → cond (t && u) x (entry size xs y b) ≡ entry size xs y b
+    no_first t u e = rw e refl
 
 -- ---- the manifest that is made
 

@@ -1,5 +1,5 @@
 -- There is room for the rounds on loaded partitions.
-use Rattle.std.proofs.Common.{◌≡◌, ◌≢◌, ℕ, ◌+◌, ◌-◌, ◌*◌, ◌^◌, ◌<◌, ◌≤◌, ◌⊎◌, true, List, ◌++◌, length, refl, sym, ap, ◌∙◌, subst, arith, inl, inr, Option, Some, None, length-append}
+use Rattle.std.proofs.Common.{◌≡◌, ◌≢◌, ℕ, ◌+◌, ◌-◌, ◌*◌, ◌^◌, ◌<◌, ◌≤◌, ◌⊎◌, Bool, true, List, ◌++◌, length, refl, sym, ap, ◌∙◌, subst, arith, inl, inr, Option, Some, None, length-append}
 use Rattle.std.specs.Prelude.{All, Contains}
 use Rattle.std.proofs.lemmas.List.Elements.{All-contains, Contains-append_cases}
 use Rattle.graph_words.specs.declared.types.Born.{Born}
@@ -25,6 +25,12 @@ use Rattle.closer.proofs.Bounds.{cut, label_fits, room_one, room_two, row_total,
 use Rattle.closer.proofs.Flat.{edge_fits}
 use Rattle.closer.proofs.Running.{cut_apart}
 use Rattle.closer.proofs.Sums.{row_sum}
+
+-- the same run, by equal names
+pub run_moved : (n n' : Normal) (xs ys : List Born) (r r' budget : ℕ) (b : Bool) (k k' : ℕ) (rows : List Born) → n ≡ n' → xs ≡ ys → r ≡ r' → b ≡ true → k ≡ k' → IsPairRun n xs 0 r budget b k rows → IsPairRun n' ys 0 r' budget true k' rows
+run_moved n n' xs ys r r' budget b k k' rows en ex er eb ek run =
+    subst (λ (y : Normal). IsPairRun y ys 0 r' budget true k' rows) en
+    (subst (λ (y : List Born). IsPairRun n y 0 r' budget true k' rows) ex (subst (λ (y : ℕ). IsPairRun n xs 0 y budget true k' rows) er (subst (λ (y : Bool). IsPairRun n xs 0 r budget y k' rows) eb (subst (λ (y : ℕ). IsPairRun n xs 0 r budget b y rows) ek run))))
 
 module _ (s : OpenStore) (is : IsOpenStore s) where
   pub stands : (i j : ℕ) (p : Part) (q : Option Part) → ArePairIn s i j p q → StandsBehind p q

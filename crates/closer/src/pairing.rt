@@ -1,9 +1,10 @@
 //! One or two partitions are loaded, and rounds are run on them.
-ghost use Rattle.std.specs.Prelude.{◌≡◌, ◌<◌, ◌≤◌, ℕ, IsTrue, IfOk, length};
+ghost use Rattle.std.specs.Prelude.{◌≡◌, ◌<◌, ◌≤◌, ℕ, IsTrue, true, IfOk, length};
 ghost use Rattle.normal_law.specs.NormalForm.{normal_form};
 ghost use Rattle.manifest_switch.specs.Looks.{OnlyLooks};
 ghost use Rattle.open_store.specs.Answers.{HasDiskCause};
 ghost use Rattle.partition_file.specs.Spelling.{IsPart};
+ghost use Rattle.superstep.specs.Ends.{is_closed, rounds_of};
 ghost use Rattle.closer.specs.Making.{ArePairIn, AreRun, AreSpelled, BlamesPair, IfHigh};
 
 use disk_model::Disk;
@@ -55,6 +56,16 @@ fn keeps_rules(part: &Option<Partition>)
     }
 }
 
+// How many rounds added edges.
+fn added(end: PairEnd) -> u64
+    ensures rounds { result ≡ rounds_of end }
+    ensures closed { is_closed end ≡ true }
+{
+    match end {
+        PairEnd::Closed { rounds } => rounds,
+    }
+}
+
 /// Runs rounds on loaded partitions until one adds nothing. The first goes over all edges.
 pub(crate) fn run_loaded(
     alloc: Global,
@@ -72,7 +83,6 @@ pub(crate) fn run_loaded(
     let (low, high) = rows.into_parts()?;
     let _lo = low.lo();
     keeps_rules(&high);
-    match end {
-        PairEnd::Closed { rounds } => Ok(Ran { low, high, rounds }),
-    }
+    let rounds = added(end);
+    Ok(Ran { low, high, rounds })
 }
