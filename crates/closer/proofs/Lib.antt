@@ -11,3 +11,4 @@ pub mod Ending
 pub mod Images
 pub mod PutLemmas
 pub mod Rooming
+pub mod Closings

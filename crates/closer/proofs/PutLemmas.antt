@@ -1,5 +1,5 @@
 -- A partition is put, and the manifest that is made tells of it.
-use Rattle.std.proofs.Common.{◌≡◌, ◌≢◌, ℕ, ◌+◌, ◌*◌, ◌<◌, ◌≤◌, ◌==◌, ◌⊎◌, ◌&&◌, Bool, true, false, cond, List, length, get_or, refl, sym, ap, ◌∙◌, subst, arith, inl, inr, Option, Some, None}
+use Rattle.std.proofs.Common.{◌≡◌, ◌≢◌, ℕ, zero, suc, [], ◌∷◌, ◌+◌, ◌*◌, ◌<◌, ◌≤◌, ◌==◌, ◌⊎◌, ◌&&◌, Bool, true, false, cond, List, length, get_or, refl, sym, ap, ◌∙◌, subst, arith, inl, inr, Option, Some, None}
 use Rattle.std.specs.Prelude.{map, All, AllPairs, Contains, IsTrue, slice_index_or, slice_set}
 use Rattle.std.proofs.lemmas.Bool.Decides.{nat_tests}
 use Rattle.std.proofs.Math.Seq.{map-set_same}
@@ -176,6 +176,18 @@ puts_new m a file newest row p next after old new there r free untaken sets =
 pub puts_none : (s : OpenStore) (tells : Bool) (a : ℕ) (p : Part) (next : Manifest) (c : Contents) → MayPut s tells c a p next → IsTrue tells → All (λ b. b.birth < s.manifest.round) p.edges → Puts s.manifest a p next next c c
 puts_none s tells a p next c may tell old = record { spares = spares_refl s.manifest c; spelled = may.same tell old; others = λ x lt ne. refl }
 
+-- no birth is greater than the greatest
+below_greatest : (bs : List Born) (i : ℕ) (d : Born) → i < length bs → (get_or bs i d).birth ≤ greatest_birth bs
+below_greatest [] i d lt = absurd (omega arith)
+below_greatest (b ∷ bs) zero d lt = omega arith
+below_greatest (b ∷ bs) (suc i) d lt = let h = below_greatest bs i d (omega arith) in omega arith
+
+pub rises : (round old newest : ℕ) (ends : List ℕ) (edges : List Born) (row : List ℕ) (b : Born) → old < round → IsTally ends edges row newest → Contains edges b → round ≤ b.birth → old ≤ newest
+rises round old newest ends edges row b low tally has new =
+    let h = All-contains (λ (c : Born). c.birth ≤ greatest_birth edges) edges b (λ i d lt. below_greatest edges i d lt) has in
+    let e = tally.newest_is in
+    omega (arith, low, h, e, new)
+
 -- ---- the second of two
 
 pub may_put_then : (s : OpenStore) (tells : Bool) (c d : Contents) (a z : ℕ) (p q : Part) (next after : Manifest) → a ≢ z → MayPut s tells c z q next → TakesOn s.manifest.round a p.edges next after → (IsTrue tells → Puts s.manifest a p next after c d) → MayPut s tells d z q after
@@ -193,3 +205,7 @@ may_put_then s tells c d a z p q next after apart may t put =
           record { counts = λ b lb. t.other_counts z b ne ∙ told.counts b (omega (arith, lb, len)) ∙ ap (λ (l : List ℕ). count_into l q.edges b) (sym t.ends); newest = t.other_newest z ne ∙ told.newest };
       same = λ tell old. subst (λ (f : List ℕ). Spells f q) (sym (ap d (t.other_files z ne) ∙ (put tell).others z may.there ne)) (may.same tell old);
     }
+
+pub first_may : (s : OpenStore) (tells : Bool) (c : Contents) (low high : ℕ) (p' : Part) (q' : Option Part) (next : Manifest) → MayPutPair s tells c low high p' q' next → MayPut s tells c low p' next
+first_may s tells c low high p' None next may = may
+first_may s tells c low high p' (Some q) next may = may.1

@@ -48,6 +48,7 @@ fn with_part(
     next.parts = with_file(alloc, &next.parts, i, file)?;
     next.map = with_row(alloc, &next.map, i, &tally.row)?;
     next.marks.raise(i, tally.newest);
+    let _size = next.marks.len();
     Ok(next)
 }
 

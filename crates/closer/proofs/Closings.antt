@@ -1,0 +1,60 @@
+-- What a step answers, and what steps do.
+use Rattle.std.proofs.Common.{◌≡◌, ◌≢◌, ℕ, ◌+◌, ◌<◌, ◌≤◌, Bool, List, length, take, refl, sym, ap, ◌∙◌, subst, arith, true}
+use Rattle.std.specs.Prelude.{All, IsTrue}
+use Rattle.std.proofs.lemmas.List.{take_all}
+use Rattle.normal_law.specs.NormalForm.{normal_form}
+use Rattle.closing_machine.specs.State.{IsDirtyBy, IsPick}
+use Rattle.closing_machine.specs.Machine.{is_among}
+use Rattle.disk_model.specs.Disk.{Contents}
+use Rattle.disk_model.specs.Crash.{LeavesJust}
+use Rattle.disk_model.specs.declared.form_kind.FormKind.{FormKind}
+use Rattle.dest_map.specs.Table.{counts_of}
+use Rattle.pair_sched.specs.Marks.{joined_of, newest_of}
+use Rattle.pair_sched.specs.Picking.{IsClean}
+use Rattle.manifest.specs.declared.types.Manifest.{Manifest}
+use Rattle.manifest.specs.Spelling.{Fits}
+use Rattle.manifest_switch.specs.Slots.{other}
+use Rattle.manifest_switch.specs.Steps.{IsSwitched}
+use Rattle.store_law.specs.Left.{IsDone}
+use Rattle.store_law.specs.Listed.{ends_of}
+use Rattle.open_store.specs.Store.{IsHeldAlone, IsOpenStore, OpenStore}
+use Rattle.closer.specs.Continuing.{Continues}
+use Rattle.closer.specs.Answers.{BlamesPicked, IsStepped}
+use Rattle.closer.specs.Making.{BlamesPair, IsNext}
+use Rattle.closer.proofs.Ending.{outcome}
+use Rattle.closer.proofs.Images.{continues_beside}
+
+-- the pick of a manifest that is handed out
+pub picked : (r m : Manifest) (i j : ℕ) → r ≡ m → Fits m → IsPick (counts_of r.map) (joined_of r.marks) (newest_of r.marks) r.map.0 i j → IsPick (counts_of m.map) (joined_of m.marks) (newest_of m.marks) (length m.parts) i j
+picked r m i j same fits is =
+    subst (λ (n : ℕ). IsPick (counts_of m.map) (joined_of m.marks) (newest_of m.marks) n i j) fits.map.size (subst (λ (x : Manifest). IsPick (counts_of x.map) (joined_of x.marks) (newest_of x.marks) x.map.0 i j) same is)
+
+pub clean : (r m : Manifest) → r ≡ m → Fits m → IsClean (counts_of r.map) (joined_of r.marks) (newest_of r.marks) r.map.0 → IsDone m
+clean r m same fits is =
+    subst (λ (n : ℕ). IsClean (counts_of m.map) (joined_of m.marks) (newest_of m.marks) n) fits.map.size (subst (λ (x : Manifest). IsClean (counts_of x.map) (joined_of x.marks) (newest_of x.marks) x.map.0) same is)
+
+pub same_size : (r m : Manifest) → r ≡ m → Fits m → r.map.0 ≡ r.marks.0
+same_size r m same fits = ap (λ (x : Manifest). x.map.0) same ∙ fits.map.size ∙ sym fits.marks.size ∙ sym (ap (λ (x : Manifest). x.marks.0) same)
+
+pub blamed_pick : (s : OpenStore) (tells : Bool) (c : Contents) (i j f p : ℕ) (k : FormKind) → IsPick (counts_of s.manifest.map) (joined_of s.manifest.marks) (newest_of s.manifest.marks) (length s.manifest.parts) i j → BlamesPair s tells c i j f p k → BlamesPicked s tells c f p k
+blamed_pick s tells c i j f p k pick b = record { i = i; j = j; pick = pick; partition = b.partition; among = b.among; file_is = b.file_is; refused = b.refused }
+
+pub labels_begin : (m next : Manifest) → next.labels ≡ m.labels → take (length m.labels) next.labels ≡ m.labels
+labels_begin m next same = ap (λ (l : List (List ℕ)). take (length m.labels) l) same ∙ take_all (length m.labels) m.labels (omega arith)
+
+module _ (s : OpenStore) (is : IsOpenStore s) (tells : Bool) (old mid : Contents) (i j : ℕ) (next : Manifest) (x : IsNext s tells old mid i j next) (left : IsTrue tells → All (λ r. r.left.0 < length s.manifest.labels) s.rules) (pick : IsPick (counts_of s.manifest.map) (joined_of s.manifest.marks) (newest_of s.manifest.marks) (length s.manifest.parts) i j) where
+  pub goes_on : IsTrue tells → Continues (normal_form s.rules) 1 old s.manifest mid next
+  goes_on tell = (outcome s tells old mid i j next is x).goes_on tell (left tell) pick
+
+  pub stepped : (t : OpenStore) (new : Contents) (images : Contents → Type 0) → t ≡ record { slot = other s.slot; manifest = next; rules = s.rules; ends = ends_of next } → (IsTrue tells → IsSwitched t.slot next mid new) → ((c : Contents) → images c → IsHeldAlone t c) → LeavesJust new images → IsStepped tells old s new images t
+  stepped t new images same switched held synced =
+      subst (λ (o : OpenStore). IsStepped tells old s new images o) (sym same)
+      (record {
+        work = record { i = i; j = j; first_below = pick.first_below; second_below = pick.second_below; dirty = pick.dirty };
+        continues = λ tell. continues_beside (normal_form s.rules) 1 old mid new s.manifest next (goes_on tell) (switched tell).others;
+        rules_are = refl;
+        slot_is = refl;
+        less = (outcome s tells old mid i j next is x).less pick.first_below pick.second_below pick.dirty;
+        held = subst (λ (o : OpenStore). (c : Contents) → images c → IsHeldAlone o c) same held;
+        synced = synced;
+      })

@@ -1,0 +1,4 @@
+use Rattle.closer.proofs.putting.put_pair.Goals as goal
+
+pub x : goal.x
+x g c = ?
