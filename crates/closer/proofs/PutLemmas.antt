@@ -1,6 +1,6 @@
 -- A partition is put, and the manifest that is made tells of it.
 use Rattle.std.proofs.Common.{◌≡◌, ◌≢◌, ℕ, zero, suc, [], ◌∷◌, ◌+◌, ◌*◌, ◌<◌, ◌≤◌, ◌==◌, ◌⊎◌, ◌&&◌, Bool, true, false, cond, List, length, get_or, refl, sym, ap, ◌∙◌, subst, arith, inl, inr, Option, Some, None}
-use Rattle.std.specs.Prelude.{map, All, AllPairs, Contains, IsTrue, slice_index_or, slice_set}
+use Rattle.std.specs.Prelude.{map, All, AllPairs, Contains, IfOk, IsTrue, Result, Ok, Err, slice_index_or, slice_set}
 use Rattle.std.proofs.lemmas.Bool.Decides.{nat_tests}
 use Rattle.std.proofs.Math.Seq.{map-set_same}
 use Rattle.std.proofs.lemmas.List.{get_or-map, get_or-set_other, get_or-set_same, length-map, length-set, map-set}
@@ -19,6 +19,7 @@ use Rattle.manifest.specs.declared.types.PartEntry.{PartEntry}
 use Rattle.manifest.specs.declared.types.Manifest.{Manifest}
 use Rattle.store_law.specs.Listed.{ends_of, part_file}
 use Rattle.store_law.specs.Steps.{IsFree}
+use Rattle.open_store.specs.declared.fault.StoreFault.{StoreFault}
 use Rattle.open_store.specs.Reading.{count_into}
 use Rattle.open_store.specs.Streaming.{IsTally}
 use Rattle.open_store.specs.Store.{OpenStore}
@@ -209,3 +210,9 @@ may_put_then s tells c d a z p q next after apart may t put =
 pub first_may : (s : OpenStore) (tells : Bool) (c : Contents) (low high : ℕ) (p' : Part) (q' : Option Part) (next : Manifest) → MayPutPair s tells c low high p' q' next → MayPut s tells c low p' next
 first_may s tells c low high p' None next may = may
 first_may s tells c low high p' (Some q) next may = may.1
+
+pub put_two : (m : Manifest) (tells : Bool) (low high : ℕ) (p' q : Part) (h : Option Part) (before mid : Manifest) (old between new : Contents) (r : Result Manifest StoreFault) → h ≡ Some q → TakesOn m.round low p'.edges before mid → (IsTrue tells → Puts m low p' before mid old between) → IfOk r (TakesOn m.round high q.edges mid) → (IsTrue tells → IfOk r (λ after. Puts m high q mid after between new))
+    → IfOk r (λ after. ArePut m tells low high p' h before old after new)
+put_two m tells low high p' q h before mid old between new (Ok after) is t put u put' =
+    subst (λ (x : Option Part). ArePut m tells low high p' x before old after new) (sym is) (record { mid = mid; between = between; low_takes = t; low_puts = put; high_takes = u; high_puts = put' })
+put_two m tells low high p' q h before mid old between new (Err e) is t put u put' = record {}
