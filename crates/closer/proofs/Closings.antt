@@ -1,6 +1,6 @@
 -- What a step answers, and what steps do.
-use Rattle.std.proofs.Common.{◌≡◌, ◌≢◌, ℕ, ◌+◌, ◌<◌, ◌≤◌, Bool, List, length, take, refl, sym, ap, ◌∙◌, subst, arith, true}
-use Rattle.std.specs.Prelude.{All, IsTrue}
+use Rattle.std.proofs.Common.{◌≡◌, ◌≢◌, ℕ, ◌+◌, ◌<◌, ◌≤◌, Bool, List, length, take, refl, sym, ap, ◌∙◌, subst, arith, true, inl, inr}
+use Rattle.std.specs.Prelude.{All, IsTrue, Result, Ok, Err}
 use Rattle.std.proofs.lemmas.List.{take_all}
 use Rattle.normal_law.specs.NormalForm.{normal_form}
 use Rattle.closing_machine.specs.State.{IsDirtyBy, IsPick}
@@ -17,12 +17,33 @@ use Rattle.manifest_switch.specs.Slots.{other}
 use Rattle.manifest_switch.specs.Steps.{IsSwitched}
 use Rattle.store_law.specs.Left.{IsDone}
 use Rattle.store_law.specs.Listed.{ends_of}
+use Rattle.open_store.specs.declared.fault.StoreFault.{StoreFault}
+use Rattle.open_store.specs.declared.fault.StoreFault.TheVariants.{BadStore, DiskFault, InputFault, NoMemory, OtherInput, ReadFault}
+use Rattle.open_store.specs.Answers.{HasDiskCause}
 use Rattle.open_store.specs.Store.{IsHeldAlone, IsOpenStore, OpenStore}
 use Rattle.closer.specs.Continuing.{Continues}
 use Rattle.closer.specs.Answers.{BlamesPicked, IsStepped}
-use Rattle.closer.specs.Making.{BlamesPair, IsNext}
+use Rattle.closer.specs.Making.{BlamesPair, IsNext, IsOrderedPair}
 use Rattle.closer.proofs.Ending.{outcome}
 use Rattle.closer.proofs.Images.{continues_beside}
+use Rattle.closer.proofs.StepLemmas.{among_turned}
+
+-- the cause of a later part is one of the whole
+pub cause_more : {T : Type 0} (before mid now : ℕ) (bad worse : ℕ → ℕ → FormKind → Type 0) (r : Result T StoreFault) → before ≤ mid → ((f p : ℕ) (k : FormKind) → bad f p k → worse f p k) → HasDiskCause mid now bad r → HasDiskCause before now worse r
+cause_more before mid now bad worse (Ok x) le more h = h
+cause_more before mid now bad worse (Err DiskFault) le more h = omega (arith, le, h)
+cause_more before mid now bad worse (Err (BadStore f p k)) le more h = more f p k h
+cause_more before mid now bad worse (Err NoMemory) le more h = h
+cause_more before mid now bad worse (Err ReadFault) le more h = h
+cause_more before mid now bad worse (Err (InputFault f l k)) le more h = h
+cause_more before mid now bad worse (Err (OtherInput f p)) le more h = h
+
+pub high_within : (i j low high n : ℕ) → IsOrderedPair i j low high → i < n → j < n → high < n
+high_within i j low high n (le, inl same) li lj = omega (arith, same.1, lj)
+high_within i j low high n (le, inr same) li lj = omega (arith, same.1, li)
+
+pub blamed_turned : (s : OpenStore) (tells : Bool) (c : Contents) (i j low high f p : ℕ) (k : FormKind) → IsOrderedPair i j low high → BlamesPair s tells c low high f p k → BlamesPair s tells c i j f p k
+blamed_turned s tells c i j low high f p k ordered b = record { partition = b.partition; among = among_turned i j low high b.partition ordered ∙ b.among; file_is = b.file_is; refused = b.refused }
 
 -- the pick of a manifest that is handed out
 pub picked : (r m : Manifest) (i j : ℕ) → r ≡ m → Fits m → IsPick (counts_of r.map) (joined_of r.marks) (newest_of r.marks) r.map.0 i j → IsPick (counts_of m.map) (joined_of m.marks) (newest_of m.marks) (length m.parts) i j

@@ -49,7 +49,7 @@ turned_pair n i j low high k before after (le, inr same) st =
     let w = superstep_swap n low high k true before after st.0 in
     subst (λ (x : ℕ). FromZero n x j k before after) same.1 (subst (λ (y : ℕ). FromZero n high y k before after) same.0 (w.0, w.1 ∙ st.1))
 
-among_turned : (i j low high a : ℕ) → IsOrderedPair i j low high → is_among i j a ≡ is_among low high a
+pub among_turned : (i j low high a : ℕ) → IsOrderedPair i j low high → is_among i j a ≡ is_among low high a
 among_turned i j low high a (le, inl same) = rw (same.0, same.1) refl
 among_turned i j low high a (le, inr same) = rw (same.0, same.1) (swapped (a == i) (a == j))
   where

@@ -5,6 +5,7 @@ ghost use Rattle.dest_map.specs.Table.{counts_of};
 ghost use Rattle.pair_sched.specs.Marks.{joined_of};
 ghost use Rattle.manifest_switch.specs.Slots.{next_generation};
 ghost use Rattle.store_law.specs.Steps.{IsFree};
+ghost use Rattle.open_store.specs.Store.{IsOpenStore};
 ghost use Rattle.closer.specs.Making.{IsMarked, Refiles};
 
 use dest_map::DestMap;
@@ -49,7 +50,8 @@ pub(crate) fn marked(
     requires i { i < length store.now.manifest.parts }
     requires j { j < length store.now.manifest.parts }
     requires room { store.now.manifest.round + rounds < 2 ^ 64 }
-    ensures { IfOk result (IsMarked store.now.manifest i j rounds) }
+    ensures marked { IfOk result (IsMarked store.now.manifest i j rounds) }
+    ensures store { IsOpenStore store.now }
 {
     let mut next = store.manifest().copy()?;
     next.generation = generation_after(next.generation);
