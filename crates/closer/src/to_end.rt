@@ -33,6 +33,8 @@ pub fn run_to_end<D: Disk>(
     ensures later { D.faults disk.old ≤ D.faults disk.new }
     ensures cause { HasDiskCause (D.faults disk.old) (D.faults disk.new) (BlamesOnTheWay store D.tells (D.seen disk.old)) result }
 {
+    // The manifest keeps its rules, also where no step is made.
+    let _manifest = store.manifest();
     let mut current = store;
     loop {
         match step(alloc, disk, current, options)? {
