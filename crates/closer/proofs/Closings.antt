@@ -2,6 +2,7 @@
 use Rattle.std.proofs.Common.{◌≡◌, ◌≢◌, ℕ, ◌+◌, ◌<◌, ◌≤◌, Bool, List, length, take, refl, sym, ap, ◌∙◌, subst, arith, true, inl, inr}
 use Rattle.std.specs.Prelude.{All, IsTrue, Result, Ok, Err}
 use Rattle.std.proofs.lemmas.List.{take_all}
+use Rattle.graph_words.specs.declared.types.Rule.{Rule}
 use Rattle.normal_law.specs.NormalForm.{normal_form}
 use Rattle.closing_machine.specs.State.{IsDirtyBy, IsPick}
 use Rattle.closing_machine.specs.Machine.{is_among}
@@ -21,11 +22,12 @@ use Rattle.open_store.specs.declared.fault.StoreFault.{StoreFault}
 use Rattle.open_store.specs.declared.fault.StoreFault.TheVariants.{BadStore, DiskFault, InputFault, NoMemory, OtherInput, ReadFault}
 use Rattle.open_store.specs.Answers.{HasDiskCause}
 use Rattle.open_store.specs.Store.{IsHeldAlone, IsOpenStore, OpenStore}
-use Rattle.closer.specs.Continuing.{Continues}
-use Rattle.closer.specs.Answers.{BlamesPicked, IsStepped}
+use Rattle.closer.specs.Continuing.{Continues, HasWork}
+use Rattle.closer.specs.Answers.{BlamesPicked, IsClosed, IsStepped}
 use Rattle.closer.specs.Making.{BlamesPair, IsNext, IsOrderedPair}
 use Rattle.closer.proofs.Ending.{outcome}
 use Rattle.closer.proofs.Images.{continues_beside}
+use Rattle.closer.proofs.LawLemmas.{continues_further}
 use Rattle.closer.proofs.StepLemmas.{among_turned}
 
 -- the cause of a later part is one of the whole
@@ -79,3 +81,22 @@ module _ (s : OpenStore) (is : IsOpenStore s) (tells : Bool) (old mid : Contents
         held = subst (λ (o : OpenStore). (c : Contents) → images c → IsHeldAlone o c) same held;
         synced = synced;
       })
+
+-- the last step finds no work
+pub closed_here : {D : Type 0} (seen : D → Contents) (images : D → Contents → Type 0) (tells : Bool) (s current last : OpenStore) (old now new : D) → last ≡ current → IsDone current.manifest → new ≡ now → current.rules ≡ s.rules → (IsTrue tells → (k : ℕ) × Continues (normal_form s.rules) k (seen old) s.manifest (seen now) current.manifest)
+    → ((c : Contents) → images now c → IsHeldAlone current c) → (LeavesJust (seen old) (images old) → LeavesJust (seen now) (images now)) → IsClosed tells (seen old) (images old) s (seen new) (images new) last
+closed_here {D} seen images tells s current last old now new same done still rules on held synced =
+    subst (λ (x : D). IsClosed tells (seen old) (images old) s (seen x) (images x) last) (sym still)
+    (subst (λ (o : OpenStore). IsClosed tells (seen old) (images old) s (seen now) (images now) o) (sym same) (record { done = done; continues = on; rules_are = rules; held = held; synced = synced }))
+
+-- steps behind others, with one more
+pub one_more : (s t u : OpenStore) (tells : Bool) (c d e : Contents) (images : Contents → Type 0) → t.rules ≡ s.rules → (IsTrue tells → (k : ℕ) × Continues (normal_form s.rules) k c s.manifest d t.manifest) → IsStepped tells d t e images u → IsTrue tells → (k : ℕ) × Continues (normal_form s.rules) k c s.manifest e u.manifest
+one_more s t u tells c d e images same on step tell =
+    let o = on tell in
+    (o.0 + 1, continues_further (normal_form s.rules) o.0 1 c d e s.manifest t.manifest u.manifest o.1 (subst (λ (r : List Rule). Continues (normal_form r) 1 d t.manifest e u.manifest) same (step.continues tell)))
+
+-- a store that has no work left makes no step
+pub no_step_there : (s t u : OpenStore) (tells : Bool) (d e : Contents) (images : Contents → Type 0) → IsDone s.manifest → t ≡ s → IsStepped tells d t e images u → ⊥
+no_step_there s t u tells d e images done same step =
+    let w = subst (λ (o : OpenStore). HasWork o.manifest) same step.work in
+    done w.i w.j w.first_below w.second_below w.dirty

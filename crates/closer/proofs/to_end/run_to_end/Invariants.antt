@@ -9,8 +9,8 @@ use Rattle.closer.specs.Continuing.{Continues, Retains, work_of}
 use Rattle.closer.specs.Answers.{Moves}
 use Rattle.closer.proofs.to_end.run_to_end.Given as goal
 
-abbrev pub invariant-loop-current : goal.invariant-loop-current
-invariant-loop-current g l =
+abbrev pub invariant-loop-next : goal.invariant-loop-next
+invariant-loop-next g l =
     let D = g.D.Disk in
     record {
       rules : l.current.rules ≡ l.fn.store.rules;
@@ -23,5 +23,5 @@ invariant-loop-current g l =
       later : D.faults l.fn.disk ≤ D.faults l.disk;
     }
 
-abbrev pub decreases-loop-current : goal.decreases-loop-current
-decreases-loop-current g l = work_of l.current.manifest
+abbrev pub decreases-loop-next : goal.decreases-loop-next
+decreases-loop-next g l = work_of l.current.manifest
