@@ -113,7 +113,7 @@ one_hot t zero below = absurd (omega arith)
 one_hot t (suc k) below =
     either
     (λ h. let r = one_hot t k h in let e : (t == k) ≡ false = grind (arith, nat_tests) in rw e (omega arith))
-    (λ h. let e : (t == k) ≡ true = grind (arith, nat_tests) in let n = none_hot t k (omega arith) in rw e (omega arith))
+    (λ h. let e : (t == k) ≡ true = grind (arith, nat_tests) in let le : k ≤ t = omega arith in let n = none_hot t k le in rw e (omega arith))
     (cases_lt t k)
   where
     none_hot : (u n : ℕ) → n ≤ u → sum_below (λ j. cond (u == j) 1 0) n ≡ 0
