@@ -19,25 +19,27 @@ const OPTIONS: RunOptions = RunOptions {
     budget: 16_000_000,
 };
 
-// Imports the brackets to a blank disk, in partitions of so many edges.
-fn imported(alloc: Global, disk: &mut MemDisk, limit: u64) -> Result<Store, StoreFault> {
+// The edge file as the inputs' only one.
+fn edge_file(alloc: Global) -> Result<MemInputs, StoreFault> {
     let name = String::from_str(alloc, "e")?;
     let bytes = EDGES.to_vec(alloc)?;
-    let mut inputs = MemInputs::new(vec![in alloc; NamedBytes { name, bytes }]?);
+    Ok(MemInputs::new(vec![in alloc; NamedBytes { name, bytes }]?))
+}
+
+// The brackets, imported in partitions of so many edges where the disk is blank, and closed.
+fn closed(alloc: Global, disk: &mut MemDisk, limit: u64) -> Result<Store, StoreFault> {
+    let mut inputs = edge_file(alloc)?;
     let grammar = GRAMMAR.as_slice();
     let Ok(_read) = read_grammar(alloc, grammar) else {
         return Err(StoreFault::NoMemory);
     };
     match open(alloc, disk, OpenMode::Change)? {
-        Opened::Blank => import(alloc, &mut inputs, "e", grammar, disk, limit),
-        Opened::Found(store) => Ok(store),
+        Opened::Blank => {
+            let store = import(alloc, &mut inputs, "e", grammar, disk, limit)?;
+            run_to_end(alloc, disk, store, &OPTIONS)
+        }
+        Opened::Found(store) => run_to_end(alloc, disk, store, &OPTIONS),
     }
-}
-
-// The brackets, closed in partitions of so many edges.
-fn closed(alloc: Global, disk: &mut MemDisk, limit: u64) -> Result<Store, StoreFault> {
-    let store = imported(alloc, disk, limit)?;
-    run_to_end(alloc, disk, store, &OPTIONS)
 }
 
 // How many edges a partition lists, and none where it can't be loaded.
@@ -73,11 +75,14 @@ fn brackets_close_in_two_partitions(rt: HostRuntime) -> Result<(), Fail> {
     Ok(())
 }
 
-// How many writes a further step makes, where it answers that nothing is left.
-fn writes_of_a_step(alloc: Global, disk: &mut MemDisk, store: Store) -> Option<u64> {
+// How many writes a further step makes, where it answers that no work is left.
+fn writes_of_a_step(alloc: Global, disk: &mut MemDisk) -> Option<u64> {
+    let Ok(Opened::Found(store)) = open(alloc, disk, OpenMode::Change) else {
+        return None;
+    };
     let before = disk.writes();
     match step(alloc, disk, store, &OPTIONS) {
-        Ok(Stepped::Finished(_)) => Some(disk.writes() - before),
+        Ok(Stepped::Finished(_)) => disk.writes().checked_sub(before),
         Ok(Stepped::Again(_)) | Err(_) => None,
     }
 }
@@ -85,21 +90,21 @@ fn writes_of_a_step(alloc: Global, disk: &mut MemDisk, store: Store) -> Option<u
 #[test]
 fn a_finished_store_stays_as_it_is(rt: HostRuntime) -> Result<(), Fail> {
     let mut disk = MemDisk::new(rt.alloc())?;
-    let Ok(store) = closed(rt.alloc(), &mut disk, 1) else {
-        panic!(rt; "not closed");
-    };
-    assert_eq!(rt; writes_of_a_step(rt.alloc(), &mut disk, store), Some(0));
+    let store = closed(rt.alloc(), &mut disk, 1);
+    assert!(rt; store.is_ok());
+    assert_eq!(rt; writes_of_a_step(rt.alloc(), &mut disk), Some(0));
     Ok(())
 }
 
+// The last of the calls that a closing makes fail on another disk.
 #[test]
 fn a_call_that_fails_is_a_fault_of_the_disk(rt: HostRuntime) -> Result<(), Fail> {
     let mut disk = MemDisk::new(rt.alloc())?;
-    let Ok(store) = imported(rt.alloc(), &mut disk, 1) else {
-        panic!(rt; "not imported");
-    };
-    disk.stop_from(disk.calls() + 12);
-    let failed = run_to_end(rt.alloc(), &mut disk, store, &OPTIONS);
+    let store = closed(rt.alloc(), &mut disk, 1);
+    assert!(rt; store.is_ok());
+    let mut other = MemDisk::new(rt.alloc())?;
+    other.stop_from(disk.calls().saturating_sub(8));
+    let failed = closed(rt.alloc(), &mut other, 1);
     assert!(rt; matches!(failed, Err(StoreFault::DiskFault)));
     Ok(())
 }
