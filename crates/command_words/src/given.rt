@@ -1,0 +1,52 @@
+//! The options of a run.
+ghost use Rattle.std.specs.Prelude.{◌≡◌, ◌≢◌, ◌↔◌, IsTrue, All, AllPairs, Contains, map, option_map};
+ghost use Rattle.command_words.specs.Command.{AreOptions, run_options, value_of as the_value};
+ghost use Rattle.command_words.specs.Cutting.{given_said};
+
+use crate::cutting::Given;
+
+/// The names of a run's options.
+const RUN_OPTIONS: [&str; 4] = ["workers", "part-edges", "budget", "show"];
+
+/// Whether a name is one of an option of a run.
+fn is_run_option(name: &str) -> bool
+    ensures { IsTrue result ↔ Contains run_options name.now }
+{
+    RUN_OPTIONS.iter().any(|known| *known == name)
+}
+
+/// Whether no option has this name.
+fn is_new(name: &str, options: &[Given<'_>]) -> bool
+    ensures { IsTrue result ↔ All (λ o. name.now ≢ o.name) (map given_said options.now) }
+{
+    options.iter().all(|option| option.name != name)
+}
+
+/// Whether no option is given twice.
+fn is_once(options: &[Given<'_>]) -> bool
+    ensures { IsTrue result ↔ AllPairs (λ o p. o.name ≢ p.name) (map given_said options.now) }
+{
+    let mut rest = options;
+    while let [first, behind @ ..] = rest {
+        if !is_new(first.name, behind) {
+            return false;
+        }
+        rest = behind;
+    }
+    true
+}
+
+/// Whether these are options of a run, each given once.
+pub(crate) fn are_run_options(options: &[Given<'_>]) -> bool
+    ensures { IsTrue result ↔ AreOptions run_options (map given_said options.now) }
+{
+    options.iter().all(|option| is_run_option(option.name)) && is_once(options)
+}
+
+/// The value of the option with this name, where it is given.
+pub(crate) fn value_of<'a>(name: &str, options: &[Given<'a>]) -> Option<&'a str>
+    ensures { option_map (λ v. v.now) result ≡ the_value name.now (map given_said options.now) }
+{
+    let option = options.iter().find(|option| option.name == name)?;
+    Some(option.value)
+}
