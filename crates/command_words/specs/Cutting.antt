@@ -48,15 +48,17 @@ kind_of word = if is_dashed word then option_map kind_behind (behind_dashes word
 -- what the next word may be: an option or a plain word, the value of an option, or a plain word alone
 pub data Next : Type 0 where
   any : Next
-  value : (name : List ℕ) → Next
+  value_for : (name : List ℕ) → Next
   only_plain : Next
 
 -- one option before a cut, and one plain word
 abbrev pub with_option : List ℕ → List ℕ → Option Cut → Option Cut
-with_option name value = option_map (λ c. record c { options = given name value ∷ c.options })
+with_option name value None = None
+with_option name value (Some c) = Some (record c { options = given name value ∷ c.options })
 
 abbrev pub with_plain : List ℕ → Option Cut → Option Cut
-with_plain word = option_map (λ c. record c { plain = word ∷ c.plain })
+with_plain word None = None
+with_plain word (Some c) = Some (record c { plain = word ∷ c.plain })
 
 -- a word of this kind, and behind it what is cut where this may be next
 abbrev pub cut_kind : List ℕ → Option Kind → (Next → Option Cut) → Option Cut
@@ -64,16 +66,16 @@ cut_kind word None cut = None
 cut_kind word (Some plain) cut = with_plain word (cut any)
 cut_kind word (Some rest) cut = cut only_plain
 cut_kind word (Some (joined name value)) cut = with_option name value (cut any)
-cut_kind word (Some (alone name)) cut = cut (value name)
+cut_kind word (Some (alone name)) cut = cut (value_for name)
 
 abbrev pub cut_word : List ℕ → Next → (Next → Option Cut) → Option Cut
 cut_word word any cut = cut_kind word (kind_of word) cut
-cut_word word (value name) cut = if is_dashed word then None else with_option name word (cut any)
+cut_word word (value_for name) cut = if is_dashed word then None else with_option name word (cut any)
 cut_word word only_plain cut = with_plain word (cut only_plain)
 
 -- the end of the words
 abbrev pub cut_end : Next → Option Cut
-cut_end (value name) = None
+cut_end (value_for name) = None
 cut_end _ = Some nothing
 
 -- the words as they are cut, where they can be
@@ -88,7 +90,8 @@ pub record Cutting : Type 0 where
 
 -- a cut that goes on behind another
 abbrev pub behind : Cut → Option Cut → Option Cut
-behind first = option_map (λ c. record { options = first.options ++ c.options; plain = first.plain ++ c.plain })
+behind first None = None
+behind first (Some c) = Some (record { options = first.options ++ c.options; plain = first.plain ++ c.plain })
 
 -- the whole cut, where these words are still to come
 abbrev pub whole : Cutting → List (List ℕ) → Option Cut
@@ -107,5 +110,5 @@ given_said o = given o.name.now o.value.now
 
 abbrev pub next_said : nexts.Next → Next
 next_said next_variants.Any = any
-next_said (next_variants.Value name) = value name.now
+next_said (next_variants.Value name) = value_for name.now
 next_said next_variants.OnlyPlain = only_plain

@@ -1,7 +1,7 @@
 //! Words are cut into options and plain words.
 ghost use Rattle.std.specs.Prelude.{◌≡◌, ◌<◌, ◌∷◌, ◌++◌, [], ℕ, List, None, Some, IfOk, IfErr, OnOk, length, drop};
 ghost use Rattle.command_words.specs.declared.fault.WordsFault.TheVariants.{Words};
-ghost use Rattle.command_words.specs.Cutting.{any, value, cut_from, cut_end, nothing, whole};
+ghost use Rattle.command_words.specs.Cutting.{any, value_for, cut_from, cut_end, nothing, whole};
 ghost use Rattle.command_words.specs.Words.{given};
 
 use crate::fault::WordsFault;
@@ -115,7 +115,7 @@ impl<'a> Cutter<'a> {
 
     /// Takes the value of the option with this name.
     fn take_value(&mut self, name: &'a str, word: &'a str) -> Result<(), WordsFault>
-        requires { self.old.next ≡ value name.entry.now }
+        requires { self.old.next ≡ value_for name.now }
         ensures cut { OnOk result ((words : List (List ℕ)) → whole self.new words ≡ whole self.old (word.entry.now ∷ words)) }
         ensures words { IfErr result (λ e. e ≡ Words → (words : List (List ℕ)) → cut_from (word.entry.now ∷ words) self.old.next ≡ None) }
     {
@@ -144,8 +144,8 @@ impl<'a> Cutter<'a> {
 
     /// The words are at their end.
     fn finish(self) -> Result<CutWords<'a>, WordsFault>
-        ensures cut { IfOk result (λ c. (whole self [] ≡ Some c)) }
-        ensures words { IfErr result (λ e. e ≡ Words → cut_end self.next ≡ None) }
+        ensures cut { IfOk result (λ c. (whole self.entry [] ≡ Some c)) }
+        ensures words { IfErr result (λ e. e ≡ Words → cut_end self.entry.next ≡ None) }
     {
         match self.next {
             Next::Value(_) => Err(WordsFault::Words),
