@@ -17,21 +17,31 @@ fn is_run_option(name: &str) -> bool
 
 /// Whether no option has this name.
 fn is_new(name: &str, options: &[Given<'_>]) -> bool
-    ensures { IsTrue result ↔ All (λ o. name.now ≢ o.name) (map given_said options.now) }
+    ensures { IsTrue result ↔ All (λ o. name.now ≢ o.name.now) options.now }
 {
     options.iter().all(|option| option.name != name)
 }
 
 /// Whether no option is given twice.
 fn is_once(options: &[Given<'_>]) -> bool
-    ensures { IsTrue result ↔ AllPairs (λ o p. o.name ≢ p.name) (map given_said options.now) }
+    ensures { IsTrue result ↔ AllPairs (λ o p. o.name.now ≢ p.name.now) options.now }
 {
-    let mut rest = options;
-    while let [first, behind @ ..] = rest {
-        if !is_new(first.name, behind) {
+    for i in 0..options.len() {
+        if !is_new(options[i].name, &options[i + 1..]) {
             return false;
         }
-        rest = behind;
+    }
+    true
+}
+
+/// Whether each option is one of a run.
+fn are_known(options: &[Given<'_>]) -> bool
+    ensures { IsTrue result ↔ All (λ o. Contains run_options o.name.now) options.now }
+{
+    for option in options {
+        if !is_run_option(option.name) {
+            return false;
+        }
     }
     true
 }
@@ -40,13 +50,17 @@ fn is_once(options: &[Given<'_>]) -> bool
 pub(crate) fn are_run_options(options: &[Given<'_>]) -> bool
     ensures { IsTrue result ↔ AreOptions run_options (map given_said options.now) }
 {
-    options.iter().all(|option| is_run_option(option.name)) && is_once(options)
+    are_known(options) && is_once(options)
 }
 
 /// The value of the option with this name, where it is given.
 pub(crate) fn value_of<'a>(name: &str, options: &[Given<'a>]) -> Option<&'a str>
     ensures { option_map (λ v. v.now) result ≡ the_value name.now (map given_said options.now) }
 {
-    let option = options.iter().find(|option| option.name == name)?;
-    Some(option.value)
+    for option in options {
+        if option.name == name {
+            return Some(option.value);
+        }
+    }
+    None
 }
