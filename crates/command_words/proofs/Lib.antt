@@ -1,3 +1,5 @@
 mod CutLemmas
 mod NumberLemmas
 mod GivenLemmas
+mod KindLemmas
+mod CutsLemmas

@@ -1,6 +1,6 @@
 //! The options of a run.
 ghost use Rattle.std.specs.Prelude.{◌≡◌, ◌≢◌, ◌↔◌, IsTrue, All, AllPairs, Contains, map, option_map};
-ghost use Rattle.command_words.specs.Command.{AreOptions, run_options, value_of as the_value};
+ghost use Rattle.command_words.specs.Command.{AreOptions, run_options, value_of};
 ghost use Rattle.command_words.specs.Cutting.{given_said};
 
 use crate::cutting::Given;
@@ -54,8 +54,8 @@ pub(crate) fn are_run_options(options: &[Given<'_>]) -> bool
 }
 
 /// The value of the option with this name, where it is given.
-pub(crate) fn value_of<'a>(name: &str, options: &[Given<'a>]) -> Option<&'a str>
-    ensures { option_map (λ v. v.now) result ≡ the_value name.now (map given_said options.now) }
+pub(crate) fn find_option<'a>(name: &str, options: &[Given<'a>]) -> Option<&'a str>
+    ensures { option_map (λ v. v.now) result ≡ value_of name.now (map given_said options.now) }
 {
     for option in options {
         if option.name == name {

@@ -7,7 +7,7 @@ ghost use Rattle.command_words.specs.Cutting.{given_said};
 
 use crate::cutting::Given;
 use crate::fault::WordsFault;
-use crate::given::value_of;
+use crate::given::find_option;
 use crate::numbers::number_in;
 use crate::options::RunOptions;
 use std::alloc::Global;
@@ -32,9 +32,9 @@ pub(crate) fn read_numbers(
     ensures numbers { IfOk result (AreNumbers (map given_said options.now)) }
     ensures words { IfErr result (λ e. e ≡ Words → (numbers : Numbers) → AreNumbers (map given_said options.now) numbers → ⊥) }
 {
-    let workers = number_or(value_of("workers", options), 4, MOST_WORKERS);
-    let part_edges = number_or(value_of("part-edges", options), 1_000_000, MOST);
-    let budget = number_or(value_of("budget", options), 16_000_000, MOST);
+    let workers = number_or(find_option("workers", options), 4, MOST_WORKERS);
+    let part_edges = number_or(find_option("part-edges", options), 1_000_000, MOST);
+    let budget = number_or(find_option("budget", options), 16_000_000, MOST);
     match (workers, part_edges, budget) {
         (Some(workers), Some(part_edges), Some(budget)) => Ok(RunOptions {
             workers: workers as u32,

@@ -1,13 +1,14 @@
 //! The words of a command line are read as a command.
-ghost use Rattle.std.specs.Prelude.{◌≡◌, ◌<◌, ◌≤◌, ◌↔◌, ◌∷◌, ℕ, List, [], IsTrue, IfOk, IfErr, All, length, codes};
+ghost use Rattle.std.specs.Prelude.{◌≡◌, ◌≤◌, ◌↔◌, ℕ, List, [], Option, IsTrue, IfOk, IfErr, IfSome, IfNone, All, length, map, option_map, codes};
 ghost use Rattle.graph_words.specs.Text.{IsLabel, IsVertexNumber};
 ghost use Rattle.command_words.specs.declared.fault.WordsFault.TheVariants.{Words};
-ghost use Rattle.command_words.specs.Command.{Said, Says, Reading, said};
+ghost use Rattle.command_words.specs.Command.{IsDestination, Said, Says, Reading, said, value_of};
+ghost use Rattle.command_words.specs.Cutting.{given_said};
 
 use crate::command::Command;
-use crate::cutting::{CutWords, cut_words};
+use crate::cutting::{CutWords, Given, cut_words};
 use crate::fault::WordsFault;
-use crate::given::{are_run_options, value_of};
+use crate::given::{are_run_options, find_option};
 use crate::numbers::vertex_in;
 use crate::options_read::read_numbers;
 use graph_words::is_label;
@@ -15,11 +16,17 @@ use io_edge::WordList;
 use std::alloc::Global;
 
 /// The label that `--show` names, where it is given.
-fn read_show<'a>(cut: &CutWords<'a>) -> Result<Option<&'a str>, WordsFault> {
-    match value_of("show", cut.options.as_slice()) {
-        Some(label) if !is_label(label.as_bytes()) => Err(WordsFault::Words),
-        show => Ok(show),
+fn read_show<'a>(options: &[Given<'a>]) -> Result<Option<&'a str>, WordsFault>
+    ensures show { IfOk result (λ s. (value_of (codes "show") (map given_said options.now) ≡ option_map (λ l. l.now) s) × IfSome s (λ l. IsLabel l.now)) }
+    ensures words { IfErr result (λ e. (e ≡ Words) × (IfSome (value_of (codes "show") (map given_said options.now)) IsLabel → ⊥)) }
+{
+    let Some(label) = find_option("show", options) else {
+        return Ok(None);
+    };
+    if !is_label(label.as_bytes()) {
+        return Err(WordsFault::Words);
     }
+    Ok(Some(label))
 }
 
 /// The command of `run`.
@@ -33,7 +40,7 @@ fn read_run<'a>(alloc: Global, cut: &CutWords<'a>) -> Result<Command<'a>, WordsF
     if !are_run_options(cut.options.as_slice()) {
         return Err(WordsFault::Words);
     }
-    let show = read_show(cut)?;
+    let show = read_show(cut.options.as_slice())?;
     let options = read_numbers(alloc, cut.options.as_slice())?;
     Ok(Command::Run {
         edges: *edges,
@@ -43,39 +50,47 @@ fn read_run<'a>(alloc: Global, cut: &CutWords<'a>) -> Result<Command<'a>, WordsF
     })
 }
 
-/// The label of a query and its source.
-fn read_source<'a>(label: &'a str, from: &str) -> Option<(&'a str, u32)> {
+/// The source of a query for this label.
+fn read_source(label: &str, from: &str) -> Option<u32>
+    ensures source { IfSome result (λ n. IsLabel label.now × IsVertexNumber from.now n) }
+    ensures none { IfNone result ((n : ℕ) → IsLabel label.now → IsVertexNumber from.now n → ⊥) }
+{
     if !is_label(label.as_bytes()) {
         return None;
     }
-    Some((label, vertex_in(from)?))
+    vertex_in(from)
 }
 
-/// The command of `query`, and none where its words have no reading.
-fn read_query<'a>(cut: &CutWords<'a>) -> Option<Command<'a>> {
+/// The destination of a query, which may be left out.
+fn read_destination(words: &[&str]) -> Option<Option<u32>>
+    ensures destination { IfSome result (IsDestination (map (λ w. w.now) words.now)) }
+    ensures none { IfNone result ((to : Option ℕ) → IsDestination (map (λ w. w.now) words.now) to → ⊥) }
+{
+    match words {
+        [] => Some(None),
+        [to] => Some(Some(vertex_in(*to)?)),
+        _ => None,
+    }
+}
+
+/// The command of `query`, and none where the words have no reading.
+fn read_query<'a>(cut: &CutWords<'a>) -> Option<Command<'a>>
+    ensures says { IfSome result (λ c. Says (codes "query") cut.now.options cut.now.plain (said c)) }
+    ensures none { IfNone result ((c : Said) → Says (codes "query") cut.now.options cut.now.plain c → ⊥) }
+{
     if !cut.options.is_empty() {
         return None;
     }
-    match cut.plain.as_slice() {
-        [label, from] => {
-            let (label, from) = read_source(*label, *from)?;
-            Some(Command::Query {
-                label,
-                from,
-                to: None,
-            })
-        }
-        [label, from, to] => {
-            let (label, from) = read_source(*label, *from)?;
-            let to = vertex_in(*to)?;
-            Some(Command::Query {
-                label,
-                from,
-                to: Some(to),
-            })
-        }
-        _ => None,
-    }
+    let [label, from, to @ ..] = cut.plain.as_slice() else {
+        return None;
+    };
+    let source = read_source(*label, *from)?;
+    let destination = read_destination(to)?;
+    Some(Command::Query {
+        label: *label,
+        from: source,
+        to: destination,
+    })
 }
 
 /// Whether nothing is cut.
