@@ -3,3 +3,5 @@ mod NumberLemmas
 mod GivenLemmas
 mod KindLemmas
 mod CutsLemmas
+mod ReadingLemmas
+mod AskLemmas
