@@ -1,6 +1,9 @@
 -- What clap is asked: the three options of a run that are numbers.
-use Rattle.std.specs.Prelude.{◌≡◌, ℕ, List, [], ◌∷◌, ◌++◌, Option, Some, None, codes}
+use Rattle.std.specs.Prelude.{◌≡◌, ◌≤◌, ℕ, List, [], ◌∷◌, ◌++◌, Option, Some, None, All, length, codes}
+use Rattle.clap.specs.Matches.{one_text}
 use Rattle.clap.specs.Walk.{Rule}
+use Rattle.clap.specs.declared.parser.matches.Found.{Found}
+use Rattle.graph_words.specs.Text.{IsDigit}
 use Rattle.clap.specs.Simple.{App, new_app, new_rule, with_rule}
 use Rattle.clap.specs.declared.builder.value_parser.ValueParser.TheVariants as parser
 use Rattle.command_words.specs.Command.{IsNumberOr}
@@ -31,3 +34,13 @@ pub record GiveNumbers (workers part_edges budget : Option (List ℕ)) (numbers 
   pub workers_is : IsNumberOr 4 1 64 workers numbers.workers
   pub part_edges_is : IsNumberOr 1000000 1 4294967295 part_edges numbers.part_edges
   pub budget_is : IsNumberOr 16000000 1 4294967295 budget numbers.budget
+
+-- one digit or more
+abbrev pub IsDigits : List ℕ → Type 0
+IsDigits word = (1 ≤ length word) × All IsDigit word
+
+-- the texts that clap has found under the three names
+pub record HasTexts (found : Found) (workers part_edges budget : List ℕ) : Type 0 where
+  pub workers_is : one_text found (codes "workers") ≡ Some workers
+  pub part_edges_is : one_text found (codes "part-edges") ≡ Some part_edges
+  pub budget_is : one_text found (codes "budget") ≡ Some budget

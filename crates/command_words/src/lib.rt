@@ -1,6 +1,7 @@
 //! The words of a command line: the command that they mean.
 #![tactic(auto)]
 
+mod asking;
 mod command;
 mod cutting;
 mod fault;
