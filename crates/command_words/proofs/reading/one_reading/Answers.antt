@@ -1,5 +1,4 @@
 use Rattle.command_words.proofs.ReadingLemmas.{one_reading}
-use Rattle.command_words.proofs.AskLemmas.{simple}
 use Rattle.command_words.proofs.reading.one_reading.Goals as goal
 
 pub returns : goal.returns
