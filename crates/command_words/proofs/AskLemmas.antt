@@ -163,7 +163,7 @@ default_is : (most default : ℕ) (text : Text) → IsDigits text → digits_val
 default_is most default text digits value low high = record { some = digits.0; digits = digits.1; value = value; not_less = low; not_more = high }
 
 -- numbers that are given are taken
-pub no_fault_of : (w p b : Option Text) (n : RunOptions) → GiveNumbers w p b n → fault_of numbers_app (asked w p b) ≡ []
+no_fault_of : (w p b : Option Text) (n : RunOptions) → GiveNumbers w p b n → fault_of numbers_app (asked w p b) ≡ []
 no_fault_of w p b n g =
     no_fault w p b (passes_of 64 4 w n.workers (omega arith) g.workers_is) (passes_of 4294967295 1000000 p n.part_edges (omega arith) g.part_edges_is) (passes_of 4294967295 16000000 b n.budget (omega arith) g.budget_is)
 
@@ -179,3 +179,6 @@ numbers_found w p b f words o dw dp db are rows none taken =
     let budget = number_of 4294967295 16000000 (codes "16000000") b (default_is 4294967295 16000000 (codes "16000000") (omega arith, search rules) refl (omega arith) (omega arith)) db pass.2 in
     let n : RunOptions = record { workers = workers.0; part_edges = edges.0; budget = budget.0 } in
     (n, taken _ _ _ n texts workers.1 edges.1 budget.1, record { workers_is = workers.2; part_edges_is = edges.2; budget_is = budget.2 })
+
+pub no_fault_in : (w p b : Option Text) (words : List Text) → words ≡ asked w p b → (n : RunOptions) → GiveNumbers w p b n → fault_of numbers_app words ≡ []
+no_fault_in w p b words are n g = ap (fault_of numbers_app) are ∙ no_fault_of w p b n g
