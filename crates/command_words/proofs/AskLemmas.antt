@@ -1,8 +1,7 @@
 -- What clap answers: computed over words whose values are not known.
-use Rattle.std.proofs.Common.{◌≡◌, ◌≤◌, ◌<◌, ◌^◌, ◌∙◌, ℕ, Bool, true, false, List, [], ◌∷◌, ◌++◌, Option, Some, None, IfSome, codes, unwrap_or, length, if◌then◌else◌, arith, ap, refl, sym, rules}
+use Rattle.std.proofs.Common.{◌≡◌, ◌≤◌, ◌<◌, ◌^◌, ◌∙◌, ℕ, Bool, true, false, List, [], ◌∷◌, ◌++◌, Option, Some, None, IfSome, codes, unwrap_or, if◌then◌else◌, arith, ap, refl, sym, rules}
 use Rattle.std.specs.Str.Parse.{digits_value, without_leading_plus}
 use Rattle.clap.specs.Walk.{Row, Text, one_of, rows_of}
-use Rattle.clap.specs.Matches.{one_text}
 use Rattle.clap.specs.Simple.{matches_of}
 use Rattle.clap.specs.Faults.{fault_of}
 use Rattle.clap.specs.Kinds.{Kinds, or_else}
@@ -13,9 +12,8 @@ use Rattle.clap.specs.declared.parser.matches.Found.{Found}
 use Rattle.clap.proofs.OnLiterals.{clap_on_literals}
 use Rattle.clap.proofs.ValueTestLemmas.{accepts-Accepts, Accepts-accepts}
 use Rattle.clap.proofs.WalkLemmas.{one_text-rows}
-use Rattle.graph_words.specs.Text.{IsDigit}
-use Rattle.command_words.specs.Command.{IsNumber, IsNumberOr}
-use Rattle.command_words.specs.Asking.{GiveNumbers, HasTexts, IsDigits, numbers_app, asked}
+use Rattle.command_words.specs.Command.{IsNumber, IsNumberOr, GiveNumbers}
+use Rattle.command_words.specs.Asking.{HasTexts, IsDigits, numbers_app, asked}
 use Rattle.command_words.specs.declared.options.RunOptions.{RunOptions}
 use Rattle.command_words.proofs.NumberLemmas.{all_digits, no_plus}
 

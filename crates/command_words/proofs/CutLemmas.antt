@@ -1,7 +1,7 @@
 -- Words that are cut one by one.
-use Rattle.std.proofs.Common.{◌≡◌, ◌<◌, ℕ, ◌+◌, suc, List, [], ◌∷◌, Option, Some, None, length, drop, get_or, slice_index_or, arith, ap, refl, sym, ◌∙◌}
+use Rattle.std.proofs.Common.{◌≡◌, ◌<◌, ℕ, ◌+◌, suc, List, [], ◌∷◌, Option, Some, None, length, drop, slice_index_or, arith, ap, refl, sym, ◌∙◌}
 use Rattle.std.proofs.Math.Seq.{drop-cons}
-use Rattle.command_words.specs.Cutting.{Cut, Cutting, Next, any, behind, cut_end, cut_from, nothing, whole}
+use Rattle.command_words.specs.Cutting.{Cut, Cutting, behind, cut_end, cut_from, nothing, whole}
 
 pub behind_nothing : (o : Option Cut) → behind nothing o ≡ o
 behind_nothing None = refl

@@ -35,7 +35,6 @@ first_equals name value none =
 no_first : (name : List ℕ) → (Contains name 61 → ⊥) → position_or_len is_equals name ≡ length name
 no_first name none = position_or_len_is is_equals name (length name) 0 (omega arith) (no_equals name none) (λ h. absurd (omega arith))
 
-
 pub joined_is : (name value text : List ℕ) → (Contains name 61 → ⊥) → text ≡ name ++ 61 ∷ value → kind_behind text ≡ joined name value
 joined_is name value [] none e = absurd (let len = ap length e in let sum = length-append name (61 ∷ value) in omega arith)
 joined_is name value (b ∷ bs) none e =

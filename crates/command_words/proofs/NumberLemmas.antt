@@ -1,7 +1,7 @@
 -- Words of digits, and the numbers that they write.
-use Rattle.std.proofs.Common.{◌≡◌, ◌≢◌, ◌<◌, ◌≤◌, ◌^◌, ◌∙◌, ℕ, Option, Some, None, Result, Ok, Err, List, [], ◌∷◌, length, get_or, All, arith, ap, refl, rules}
+use Rattle.std.proofs.Common.{◌≡◌, ◌<◌, ◌≤◌, ◌^◌, ◌∙◌, ℕ, Option, Some, None, Result, Ok, Err, List, [], ◌∷◌, length, All, arith, ap}
 use Rattle.std.specs.Char.{digit_value}
-use Rattle.std.specs.Str.Parse.{AllDigits, IsNumeral, ParsesUnsigned, digits_value, without_leading_plus}
+use Rattle.std.specs.Str.Parse.{AllDigits, ParsesUnsigned, digits_value, without_leading_plus}
 use Rattle.std.proofs.lemmas.Str.{digit_value_digit}
 use Rattle.std.proofs.lemmas.Str.Parse.{without_leading_plus_none}
 use Rattle.std.proofs.lemmas.List.Elements.{All-head, All-tail}
@@ -21,14 +21,6 @@ all_digits (b ∷ bs) h = (digit_below b (All-head IsDigit b bs h), all_digits b
 -- no sign stands before digits
 pub no_plus : (word : List ℕ) → 1 ≤ length word → All IsDigit word → without_leading_plus word ≡ word
 no_plus word some h = without_leading_plus_none word (λ e. let d = h 0 0 some in omega arith)
-
--- a word that `parse` refuses writes no number that is small enough
-pub no_number : (least most : ℕ) (word : List ℕ) (n : ℕ) → most < 2 ^ 64 → (IsNumeral 10 (without_leading_plus word) × (digits_value 10 (without_leading_plus word) < 2 ^ 64) → ⊥) → IsNumber least most word n → ⊥
-no_number least most word n fits refused is =
-    let plain = no_plus word is.some is.digits in
-    let value = is.value in
-    let small = is.not_more in
-    refused (rw plain (is.some, all_digits word is.digits), rw plain (omega arith))
 
 -- a word that writes a small number is read as that number
 pub number_reads : {E : Type 0} (k least most : ℕ) (word : List ℕ) (n : ℕ) (r : Result ℕ E) → n < 2 ^ k → IsNumber least most word n → ParsesUnsigned k 10 word r → r ≡ Ok n

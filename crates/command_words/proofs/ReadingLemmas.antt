@@ -1,8 +1,8 @@
 -- Words have at most one reading, which is that of their cut.
-use Rattle.std.proofs.Common.{◌≡◌, ◌≤◌, ◌<◌, ℕ, List, [], ◌∷◌, Option, Some, None, All, IfSome, length, drop, slice_index_or, codes, unwrap_or, arith, ap, subst, refl, sym, ◌∙◌}
+use Rattle.std.proofs.Common.{◌≡◌, ◌≤◌, ◌<◌, ℕ, List, [], ◌∷◌, Option, Some, None, All, length, drop, slice_index_or, codes, unwrap_or, arith, ap, subst, refl, sym, ◌∙◌}
 use Rattle.std.specs.Str.Parse.{digits_value}
-use Rattle.command_words.specs.Words.{Given, Cuts}
-use Rattle.command_words.specs.Command.{Said, run, query, dump, parts, Says, Reading, IsRun, IsQuery, IsDestination, AreNumbers, IsNumberOr, value_of}
+use Rattle.command_words.specs.Words.{Given}
+use Rattle.command_words.specs.Command.{Said, run, query, dump, parts, Says, Reading, IsDestination, AreNumbers, IsNumberOr, value_of}
 use Rattle.command_words.specs.Cutting.{Cut, any, cut_from}
 use Rattle.command_words.specs.declared.options.RunOptions.{RunOptions}
 use Rattle.command_words.proofs.CutsLemmas.{cut, cut_of, cuts_of}
@@ -48,9 +48,9 @@ numbers workers part_edges budget = record { workers = workers; part_edges = par
 
 one_options : (options : List Given) (a b : RunOptions) → AreNumbers options a → AreNumbers options b → a ≡ b
 one_options options a b m n =
-    let workers = one_number 4 1 64 (value_of (codes "workers") options) a.workers b.workers m.workers n.workers in
-    let edges = one_number 1000000 1 4294967295 (value_of (codes "part-edges") options) a.part_edges b.part_edges m.part_edges n.part_edges in
-    let budget = one_number 16000000 1 4294967295 (value_of (codes "budget") options) a.budget b.budget m.budget n.budget in
+    let workers = one_number 4 1 64 (value_of (codes "workers") options) a.workers b.workers m.workers_is n.workers_is in
+    let edges = one_number 1000000 1 4294967295 (value_of (codes "part-edges") options) a.part_edges b.part_edges m.part_edges_is n.part_edges_is in
+    let budget = one_number 16000000 1 4294967295 (value_of (codes "budget") options) a.budget b.budget m.budget_is n.budget_is in
     ap (λ x. numbers x a.part_edges a.budget) workers ∙ (ap (λ x. numbers b.workers x a.budget) edges ∙ ap (λ x. numbers b.workers b.part_edges x) budget)
 
 one_destination : (words : List (List ℕ)) (a b : Option ℕ) → IsDestination words a → IsDestination words b → a ≡ b
@@ -62,7 +62,6 @@ one_destination (w ∷ []) (Some a) None h k = absurd k
 one_destination (w ∷ []) (Some a) (Some b) h k = ap Some (sym h.value ∙ k.value)
 one_destination (w ∷ v ∷ ws) None b h k = absurd h
 one_destination (w ∷ v ∷ ws) (Some a) b h k = absurd h
-
 
 one_command : (name : List ℕ) (options : List Given) (plains : List (List ℕ)) (c d : Said) → Says name options plains c → Says name options plains d → c ≡ d
 one_command name options plains (run e g o s) (run e' g' o' s') h k =

@@ -6,8 +6,6 @@ use Rattle.clap.specs.declared.parser.matches.Found.{Found}
 use Rattle.graph_words.specs.Text.{IsDigit}
 use Rattle.clap.specs.Simple.{App, new_app, new_rule, with_rule}
 use Rattle.clap.specs.declared.builder.value_parser.ValueParser.TheVariants as parser
-use Rattle.command_words.specs.Command.{IsNumberOr}
-use Rattle.command_words.specs.declared.options.RunOptions.{RunOptions}
 
 -- an option with this name, whose value is a number from 1 to most
 abbrev pub number_rule : List ℕ → List ℕ → ℕ → Rule
@@ -16,9 +14,9 @@ number_rule name default most = record (new_rule name) { long = Some name; parse
 -- the command with the three options
 abbrev pub numbers_app : App
 numbers_app = with_rule (with_rule (with_rule (new_app (codes "run"))
-  (number_rule (codes "workers") (codes "4") 64))
-  (number_rule (codes "part-edges") (codes "1000000") 4294967295))
-  (number_rule (codes "budget") (codes "16000000") 4294967295)
+    (number_rule (codes "workers") (codes "4") 64))
+    (number_rule (codes "part-edges") (codes "1000000") 4294967295))
+    (number_rule (codes "budget") (codes "16000000") 4294967295)
 
 -- `--name=value`, where the option is given
 abbrev pub option_words : List ℕ → Option (List ℕ) → List (List ℕ)
@@ -28,12 +26,6 @@ option_words name (Some value) = (codes "--" ++ (name ++ (codes "=" ++ value))) 
 -- the words that clap gets, which begin with the command's name
 abbrev pub asked : Option (List ℕ) → Option (List ℕ) → Option (List ℕ) → List (List ℕ)
 asked workers part_edges budget = codes "run" ∷ (option_words (codes "workers") workers ++ (option_words (codes "part-edges") part_edges ++ option_words (codes "budget") budget))
-
--- the numbers that these values give, or their defaults
-pub record GiveNumbers (workers part_edges budget : Option (List ℕ)) (numbers : RunOptions) : Type 0 where
-  pub workers_is : IsNumberOr 4 1 64 workers numbers.workers
-  pub part_edges_is : IsNumberOr 1000000 1 4294967295 part_edges numbers.part_edges
-  pub budget_is : IsNumberOr 16000000 1 4294967295 budget numbers.budget
 
 -- one digit or more
 abbrev pub IsDigits : List ℕ → Type 0

@@ -42,11 +42,15 @@ abbrev pub IsNumberOr : ℕ → ℕ → ℕ → Option (List ℕ) → ℕ → Ty
 IsNumberOr default least most None n = n ≡ default
 IsNumberOr default least most (Some word) n = IsNumber least most word n
 
--- the numbers of a run that these options give
-pub record AreNumbers (options : List Given) (numbers : RunOptions) : Type 0 where
-  pub workers : IsNumberOr 4 1 64 (value_of (codes "workers") options) numbers.workers
-  pub part_edges : IsNumberOr 1000000 1 4294967295 (value_of (codes "part-edges") options) numbers.part_edges
-  pub budget : IsNumberOr 16000000 1 4294967295 (value_of (codes "budget") options) numbers.budget
+-- the numbers of a run that these values of options give
+pub record GiveNumbers (workers part_edges budget : Option (List ℕ)) (numbers : RunOptions) : Type 0 where
+  pub workers_is : IsNumberOr 4 1 64 workers numbers.workers
+  pub part_edges_is : IsNumberOr 1000000 1 4294967295 part_edges numbers.part_edges
+  pub budget_is : IsNumberOr 16000000 1 4294967295 budget numbers.budget
+
+-- the numbers of a run with these options
+abbrev pub AreNumbers : List Given → RunOptions → Type 0
+AreNumbers options = GiveNumbers (value_of (codes "workers") options) (value_of (codes "part-edges") options) (value_of (codes "budget") options)
 
 -- what the options of a run give
 pub record IsRun (options : List Given) (numbers : RunOptions) (show : Option (List ℕ)) : Type 0 where

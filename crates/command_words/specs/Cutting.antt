@@ -1,7 +1,6 @@
 -- How words are cut, as the code walks over them.
-use Rattle.std.specs.Prelude.{◌≡◌, ℕ, ◌==◌, ◌<◌, Bool, true, false, List, [], ◌∷◌, ◌++◌, Option, Some, None, if◌then◌else◌, option_map, option_and_then, nat_lt, length, codes}
+use Rattle.std.specs.Prelude.{ℕ, ◌==◌, List, [], ◌∷◌, ◌++◌, Option, Some, None, if◌then◌else◌, option_map, option_and_then, nat_lt, length}
 use Rattle.std.specs.List.{before_first, after_first, position_or_len}
-use Rattle.graph_words.specs.Text.{same_name}
 use Rattle.command_words.specs.Words.{Given, given, is_dashed}
 use Rattle.command_words.specs.declared.kind.WordKind as kinds
 use Rattle.command_words.specs.declared.kind.WordKind.TheVariants as variants

@@ -8,8 +8,8 @@ ghost use Rattle.clap.specs.Matches.{found_of};
 ghost use Rattle.clap.specs.Values.{kind_of};
 ghost use Rattle.command_words.specs.declared.fault.WordsFault.TheVariants.{Words};
 ghost use Rattle.command_words.specs.declared.options.RunOptions.{RunOptions as Numbers};
-ghost use Rattle.command_words.specs.Command.{IsNumber};
-ghost use Rattle.command_words.specs.Asking.{asked, number_rule, numbers_app, option_words, GiveNumbers, HasTexts, IsDigits};
+ghost use Rattle.command_words.specs.Command.{IsNumber, GiveNumbers};
+ghost use Rattle.command_words.specs.Asking.{asked, number_rule, numbers_app, option_words, HasTexts, IsDigits};
 
 use crate::fault::WordsFault;
 use crate::options::RunOptions;

@@ -155,10 +155,7 @@ impl<'a> Cutter<'a> {
 }
 
 /// Cuts the words behind the first.
-pub(crate) fn cut_words<'a>(
-    alloc: Global,
-    words: &'a WordList,
-) -> Result<CutWords<'a>, WordsFault>
+pub(crate) fn cut_words<'a>(alloc: Global, words: &'a WordList) -> Result<CutWords<'a>, WordsFault>
     requires { 0 < length words.now }
     ensures cut { IfOk result (λ c. cut_from (drop 1 words.now) any ≡ Some c) }
     ensures words { IfErr result (λ e. e ≡ Words → cut_from (drop 1 words.now) any ≡ None) }

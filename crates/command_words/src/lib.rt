@@ -5,12 +5,11 @@ mod asking;
 mod command;
 mod cutting;
 mod fault;
-mod numbers;
-mod given;
 mod kind;
 mod options;
-mod options_read;
 mod reading;
+mod run_numbers;
+mod run_options;
 #[cfg(test)]
 mod tests;
 

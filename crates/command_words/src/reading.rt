@@ -8,9 +8,9 @@ ghost use Rattle.command_words.specs.Cutting.{given_said};
 use crate::command::Command;
 use crate::cutting::{CutWords, Given, cut_words};
 use crate::fault::WordsFault;
-use crate::given::{are_run_options, find_option};
-use crate::numbers::vertex_in;
-use crate::options_read::read_numbers;
+use crate::run_numbers::read_numbers;
+use crate::run_options::{are_run_options, find_option};
+use edge_text::vertex_number;
 use graph_words::is_label;
 use io_edge::WordList;
 use std::alloc::Global;
@@ -58,7 +58,7 @@ fn read_source(label: &str, from: &str) -> Option<u32>
     if !is_label(label.as_bytes()) {
         return None;
     }
-    vertex_in(from)
+    vertex_number(from.as_bytes())
 }
 
 /// The destination of a query, which may be left out.
@@ -68,7 +68,7 @@ fn read_destination(words: &[&str]) -> Option<Option<u32>>
 {
     match words {
         [] => Some(None),
-        [to] => Some(Some(vertex_in(*to)?)),
+        [to] => Some(Some(vertex_number(to.as_bytes())?)),
         _ => None,
     }
 }
@@ -101,11 +101,7 @@ fn is_bare(cut: &CutWords<'_>) -> bool
 }
 
 /// The command that this name says with these options and plain words.
-fn read_named<'a>(
-    alloc: Global,
-    name: &str,
-    cut: &CutWords<'a>,
-) -> Result<Command<'a>, WordsFault>
+fn read_named<'a>(alloc: Global, name: &str, cut: &CutWords<'a>) -> Result<Command<'a>, WordsFault>
     ensures says { IfOk result (λ c. Says name.now cut.now.options cut.now.plain (said c)) }
     ensures words { IfErr result (λ e. e ≡ Words → (c : Said) → Says name.now cut.now.options cut.now.plain c → ⊥) }
 {
@@ -140,10 +136,7 @@ fn are_full(words: &WordList) -> bool
 ///
 /// The first word names it; options and plain words follow, in any order. `Words` comes exactly where the words mean no
 /// command, and `NoMemory` for want of memory. Any words may be handed in.
-pub fn read_command<'a>(
-    alloc: Global,
-    words: &'a WordList,
-) -> Result<Command<'a>, WordsFault>
+pub fn read_command<'a>(alloc: Global, words: &'a WordList) -> Result<Command<'a>, WordsFault>
     ensures reading { IfOk result (λ c. Reading words.now (said c)) }
     ensures words { IfErr result (λ e. e ≡ Words → (c : Said) → Reading words.now c → ⊥) }
 {

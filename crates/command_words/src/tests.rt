@@ -1,4 +1,4 @@
-use crate::{Command, RunOptions, WordsFault, read_command};
+use crate::{Command, RunOptions, WordsFault, one_reading, read_command};
 use io_edge::WordList;
 use std::alloc::{AllocError, Global};
 use std::test::Fail;
@@ -142,5 +142,6 @@ fn other_commands(rt: HostRuntime) -> Result<(), Fail> {
         let words = word_list(alloc, row)?;
         assert!(rt; read_command(alloc, &words) == Ok(command));
     }
+    one_reading();
     Ok(())
 }

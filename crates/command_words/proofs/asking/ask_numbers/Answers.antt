@@ -1,4 +1,4 @@
-use Rattle.std.proofs.Common.{rules, ◌≡◌, ◌∙◌, map, string_bytes, ap, sym, Some}
+use Rattle.std.proofs.Common.{rules, ◌≡◌, ◌∙◌, map, string_bytes, ap}
 use Rattle.std.specs.Option.{option_copied}
 use Rattle.clap.specs.Matches.{found_of}
 use Rattle.command_words.specs.Asking.{asked}

@@ -1,7 +1,6 @@
-use Rattle.std.proofs.Common.{rules, ◌≡◌, ◌∙◌, List, [], ℕ, drop, length, arith, ap, sym, refl, get_or, slice_index_or}
-use Rattle.std.proofs.Math.Seq.{drop-length}
+use Rattle.std.proofs.Common.{◌∙◌, drop, arith, ap}
 use Rattle.command_words.specs.Cutting.{any, cut_from, whole}
-use Rattle.command_words.proofs.CutLemmas.{behind_nothing, at_word, no_cut, no_end, at_end}
+use Rattle.command_words.proofs.CutLemmas.{behind_nothing}
 use Rattle.command_words.proofs.cutting.cut_words.Goals as goal
 
 pub loop-i-init : goal.loop-i-init

@@ -1,7 +1,6 @@
-use Rattle.std.proofs.Common.{rules}
 use Rattle.command_words.specs.Command.{run_options}
 use Rattle.command_words.proofs.GivenLemmas.{options_said, known_of, once_of}
-use Rattle.command_words.proofs.given.are_run_options.Goals as goal
+use Rattle.command_words.proofs.run_options.are_run_options.Goals as goal
 
 pub returns-then-are_known : goal.returns-then-are_known
 returns-then-are_known c = (

@@ -10,10 +10,16 @@ ghost use Rattle.command_words.specs.Cutting.{given_said};
 use crate::asking::ask_numbers;
 use crate::cutting::Given;
 use crate::fault::WordsFault;
-use crate::given::find_option;
-use crate::numbers::is_digits;
 use crate::options::RunOptions;
+use crate::run_options::find_option;
 use std::alloc::Global;
+
+/// Whether a word is one digit or more.
+fn is_digits(word: &str) -> bool
+    ensures { IsTrue result ↔ IsDigits word.now }
+{
+    !word.is_empty() && word.as_bytes().iter().all(|b| b'0' <= *b && *b <= b'9')
+}
 
 /// Whether a value is of digits alone, where there is one.
 fn is_number(value: Option<&str>) -> bool
@@ -26,10 +32,7 @@ fn is_number(value: Option<&str>) -> bool
 }
 
 /// The numbers that the options of a run give.
-pub(crate) fn read_numbers(
-    alloc: Global,
-    options: &[Given<'_>],
-) -> Result<RunOptions, WordsFault>
+pub(crate) fn read_numbers(alloc: Global, options: &[Given<'_>]) -> Result<RunOptions, WordsFault>
     ensures numbers { IfOk result (AreNumbers (map given_said options.now)) }
     ensures words { IfErr result (λ e. e ≡ Words → (numbers : Numbers) → AreNumbers (map given_said options.now) numbers → ⊥) }
 {

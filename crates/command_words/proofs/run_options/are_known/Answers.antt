@@ -1,10 +1,9 @@
-use Rattle.std.proofs.Common.{rules, Contains, arith, get_or}
-use Rattle.std.specs.List.{HoldsAt}
+use Rattle.std.proofs.Common.{Contains, arith}
 use Rattle.std.proofs.lemmas.List.{get_or_default}
-use Rattle.std.proofs.lemmas.List.Elements.{AllWithin-more, All-get_or, All-from_all_within, at_read}
+use Rattle.std.proofs.lemmas.List.Elements.{AllWithin-more, All-get_or, at_read}
 use Rattle.command_words.specs.Command.{run_options}
 use Rattle.command_words.specs.declared.cutting.Given.{Given}
-use Rattle.command_words.proofs.given.are_known.Goals as goal
+use Rattle.command_words.proofs.run_options.are_known.Goals as goal
 
 abbrev Known : Given → Type 0
 Known o = Contains run_options o.name.now
@@ -13,9 +12,9 @@ pub returns-then-not-is_run_option : goal.returns-then-not-is_run_option
 returns-then-not-is_run_option c = (
   λ yes. cc,
   λ all.
-  let known = c.is_run_option.ensures.1 (All-get_or Known c.args.options.now c.loop-option.option-index _ c.loop-option-test.true all) in
-  let unknown = c.if-not-is_run_option.true in
-  cc,
+      let known = c.is_run_option.ensures.1 (All-get_or Known c.args.options.now c.loop-option.option-index _ c.loop-option-test.true all) in
+      let unknown = c.if-not-is_run_option.true in
+      cc,
 )
 
 pub loop-option-preserved : goal.loop-option-preserved
