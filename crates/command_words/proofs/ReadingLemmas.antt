@@ -34,9 +34,6 @@ says_of words name c command is e r =
     let named : r.name ≡ name = sym (is ∙ ap (λ l. slice_index_or l 0 []) r.first) in
     subst (λ n. Says n c.options c.plain command) named (subst (λ x. Says r.name x.options x.plain command) same r.says)
 
-pub some_word : (words : List (List ℕ)) (command : Said) → length words ≡ 0 → Reading words command → ⊥
-some_word words command none r = let len = ap length r.first in absurd (omega arith)
-
 -- ---- the ranges of a run's numbers
 
 number_within : (default least most : ℕ) (word : Option (List ℕ)) (n : ℕ) → least ≤ default → default ≤ most → IsNumberOr default least most word n → (least ≤ n) × (n ≤ most)
