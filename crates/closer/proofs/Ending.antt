@@ -60,8 +60,8 @@ module _ (s : OpenStore) (is : IsOpenStore s) (tells : Bool) (old new : Contents
       let r = run.run (length (p'.edges ++ q'.edges)) (omega arith) in
       let t = turns_two s is.fits i j k start marked turned low high pair.0 p q p' q' x y r.last r.rounds p'-is q'-is run.low_part run.high_part run.format put.mid next put.low_takes put.high_takes in
       let f =
-          next_fits s.manifest next is.fits i j k t run.room (each_two s is.fits i j k start marked turned low high pair.0 p q p' q' x y r.last r.rounds p'-is q'-is run.low_part run.high_part run.format put.mid next put.low_takes put.high_takes)
-          (reached_two s is.fits i j k start marked turned low high pair.0 p q p' q' x y r.last r.rounds p'-is q'-is run.low_part run.high_part run.format put.mid next put.low_takes put.high_takes) in
+      next_fits s.manifest next is.fits i j k t run.room (each_two s is.fits i j k start marked turned low high pair.0 p q p' q' x y r.last r.rounds p'-is q'-is run.low_part run.high_part run.format put.mid next put.low_takes put.high_takes)
+      (reached_two s is.fits i j k start marked turned low high pair.0 p q p' q' x y r.last r.rounds p'-is q'-is run.low_part run.high_part run.format put.mid next put.low_takes put.high_takes) in
       record {
         turns = t;
         fits = f;

@@ -77,9 +77,9 @@ pub held_spared : (s : OpenStore) (d c : Contents) → Spares s.manifest d c →
 held_spared s d c sp held =
     record {
       only = record {
-          here = ap open_body (sp.below (file_of s.slot) (slot_below s.slot)) ∙ held.only.here;
-          none_else = ap is_open (sp.below (file_of (other s.slot)) (slot_below (other s.slot))) ∙ held.only.none_else;
-        };
+        here = ap open_body (sp.below (file_of s.slot) (slot_below s.slot)) ∙ held.only.here;
+        none_else = ap is_open (sp.below (file_of (other s.slot)) (slot_below (other s.slot))) ∙ held.only.none_else;
+      };
       grammar = subst (λ (l : List ℕ). IsCopyRead s.manifest l s.rules) (sym (sp.below 2 (omega arith))) held.grammar;
     }
 
@@ -201,14 +201,16 @@ module _ {D : Type 0} (seen : D → Contents) (moment : D → ℕ) (left_since :
   pub next_behind : (s t : OpenStore) (old now : D) → LeavesOnly moment left_since old now (From (images old) (Moves s (seen old))) → LeavesJust (seen now) (images now) → ((c : Contents) → images now c → IsHeldAlone t c) → ((c : Contents) → images now c → (k : ℕ) × Continues (normal_form s.rules) k (seen old) s.manifest (seen now) t.manifest) → IsBehind s old t now
   next_behind s t old now run just held on c from =
       let o = on from.0 from.1 in
-      let d = at_end moment left_since images counts_now only_now old now (From (images old) (Moves s (seen old))) run from.0 from.1 in
-      (d.0, d.1,
+      let d = at_end moment left_since images counts_now only_now old now (From (images old) (Moves s (seen old))) run from.0 from.1 in (
+        d.0,
+        d.1,
         inr
-        (record {
-          slot = t.slot;
-          next = t.manifest;
-          steps = o.0;
-          current = from.2.same ∙ alone_law t.slot t.manifest from.0 (held from.0 from.1).only;
-          continues =
-              continues_elsewhere (normal_form s.rules) o.0 (seen old) (seen now) c s.manifest t.manifest o.1 (from.2.grammar_copy ∙ just from.0 from.1 2) (from.2.edges_copy ∙ just from.0 from.1 3) (λ i lt. from.2.parts i lt ∙ just from.0 from.1 (part_file t.manifest i));
-        }))
+            (record {
+              slot = t.slot;
+              next = t.manifest;
+              steps = o.0;
+              current = from.2.same ∙ alone_law t.slot t.manifest from.0 (held from.0 from.1).only;
+              continues =
+                  continues_elsewhere (normal_form s.rules) o.0 (seen old) (seen now) c s.manifest t.manifest o.1 (from.2.grammar_copy ∙ just from.0 from.1 2) (from.2.edges_copy ∙ just from.0 from.1 3) (λ i lt. from.2.parts i lt ∙ just from.0 from.1 (part_file t.manifest i));
+            }),
+      )

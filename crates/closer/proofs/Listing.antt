@@ -100,11 +100,11 @@ module _ (n : Normal) (m next : Manifest) (fits : Fits m) (i j k : ℕ) (t : Tur
   few_edges : (a : ℕ) (edges : List Born) → NewIn m next a edges → length edges < 2 ^ 64
   few_edges a edges x =
       let c =
-          capacity_bounds (low (ends_of m) a) (high (ends_of m) a) edges x.part.ascending (λ b has.
-          let s = All-contains (λ (y : Born). (low (ends_of m) a ≤ y.edge.src.0) × (y.edge.src.0 < high (ends_of m) a)) edges b x.part.within has in
-          let l = All-contains (λ (y : Born). y.edge.label.0 < 63000) edges b x.labels has in
-          let v = All-contains (λ (y : Born). y.edge.dst.0 < m.vertices) edges b x.vertices has in
-          record { above = s.0; below = s.1; label = l; vertex = omega (arith, v, fits.vertices) }) in
+      capacity_bounds (low (ends_of m) a) (high (ends_of m) a) edges x.part.ascending (λ b has.
+      let s = All-contains (λ (y : Born). (low (ends_of m) a ≤ y.edge.src.0) × (y.edge.src.0 < high (ends_of m) a)) edges b x.part.within has in
+      let l = All-contains (λ (y : Born). y.edge.label.0 < 63000) edges b x.labels has in
+      let v = All-contains (λ (y : Born). y.edge.dst.0 < m.vertices) edges b x.vertices has in
+      record { above = s.0; below = s.1; label = l; vertex = omega (arith, v, fits.vertices) }) in
       let w = ends_within 0 m.vertices (ends_of m) a (cut m fits) in
       let v = fits.vertices in
       omega (arith, c, w.2, v)

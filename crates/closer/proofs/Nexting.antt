@@ -122,10 +122,10 @@ module _ (m : Manifest) (fits : Fits m) (i j k : ℕ) (start : Manifest) (s : Is
         once = subst (λ (l : List PartEntry). AllPairs (λ p q. p.file ≢ q.file) l) (sym s.parts) fits.files_once;
         map = subst (λ (l : List PartEntry). IsMap (length l) start.map) (sym s.parts) (subst (λ (t : ℕ × List ℕ). IsMap (length m.parts) t) (sym s.map_is) fits.map);
         marks = record {
-            size = s.size ∙ fits.marks.size ∙ sym size_start;
-            rows = s.rows ∙ ap (λ (x : ℕ). x * x) (s.size ∙ fits.marks.size ∙ sym size_start);
-            births = ap (λ (l : List ℕ). length l) s.newest ∙ fits.marks.births ∙ sym size_start;
-          };
+          size = s.size ∙ fits.marks.size ∙ sym size_start;
+          rows = s.rows ∙ ap (λ (x : ℕ). x * x) (s.size ∙ fits.marks.size ∙ sym size_start);
+          births = ap (λ (l : List ℕ). length l) s.newest ∙ fits.marks.births ∙ sym size_start;
+        };
       }
 
   told_start : (a : ℕ) (edges : List Born) → IsTold m a edges → IsTold start a edges
@@ -161,11 +161,12 @@ module _ (st : OpenStore) (fits : Fits st.manifest) (i j k : ℕ) (start : Manif
       let q'-is = part_same st.manifest high q q' y.part_is (some_same (span_of q') (span_of q) run.high_is) in
       let r = run.run (length (p'.edges ++ q'.edges)) (omega arith) in
       let p'-part = in_part st.manifest low p' p'-is run.low_part in
-      let q'-part = in_part st.manifest high q' q'-is run.high_part in
-      (pair.0,
+      let q'-part = in_part st.manifest high q' q'-is run.high_part in (
+        pair.0,
         may_put low p p' x.there x.part_is x.told (λ tell. (spelled tell).0) p'-is
-        (same_low (normal_form st.rules) st.manifest fits low high pair.0 y.there p.edges q.edges p'.edges q'.edges st.manifest.round k r.last r.rounds x.fits.part y.fits.part p'-part q'-part),
+            (same_low (normal_form st.rules) st.manifest fits low high pair.0 y.there p.edges q.edges p'.edges q'.edges st.manifest.round k r.last r.rounds x.fits.part y.fits.part p'-part q'-part),
         may_put high q q' y.there y.part_is y.told (λ tell. (spelled tell).1) q'-is
-        (same_high (normal_form st.rules) st.manifest fits low high pair.0 y.there p.edges q.edges p'.edges q'.edges st.manifest.round k r.last r.rounds x.fits.part y.fits.part p'-part q'-part))
+            (same_high (normal_form st.rules) st.manifest fits low high pair.0 y.there p.edges q.edges p'.edges q'.edges st.manifest.round k r.last r.rounds x.fits.part y.fits.part p'-part q'-part),
+      )
   may_put_pair low high p None p' (Some q') pair spelled run = absurd (some_none (span_of q') run.high_is)
   may_put_pair low high p (Some q) p' None pair spelled run = absurd (some_none (span_of q) (sym run.high_is))

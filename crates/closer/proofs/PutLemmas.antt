@@ -114,16 +114,16 @@ takes_new round a file newest ends edges row next after b there well r least mos
       labels = r.labels;
       ends = r.refiles.his;
       well = record {
-          few = omega (arith, len, well.few);
-          files = files_after a file next.parts after.parts r.refiles there least most well.files;
-          once = once_after a file next.parts after.parts r.refiles there untaken well.once;
-          map = record { size = r.map_size ∙ well.map.size ∙ sym len; rows = r.map_rows ∙ ap (λ (x : ℕ). x * x) (well.map.size ∙ sym len) };
-          marks = record {
-              size = r.marks_size ∙ well.marks.size ∙ sym len;
-              rows = ap (λ (l : List ℕ). length l) r.joined ∙ well.marks.rows ∙ ap (λ (x : ℕ). x * x) (sym len);
-              births = r.births ∙ well.marks.births ∙ sym len;
-            };
+        few = omega (arith, len, well.few);
+        files = files_after a file next.parts after.parts r.refiles there least most well.files;
+        once = once_after a file next.parts after.parts r.refiles there untaken well.once;
+        map = record { size = r.map_size ∙ well.map.size ∙ sym len; rows = r.map_rows ∙ ap (λ (x : ℕ). x * x) (well.map.size ∙ sym len) };
+        marks = record {
+          size = r.marks_size ∙ well.marks.size ∙ sym len;
+          rows = ap (λ (l : List ℕ). length l) r.joined ∙ well.marks.rows ∙ ap (λ (x : ℕ). x * x) (sym len);
+          births = r.births ∙ well.marks.births ∙ sym len;
         };
+      };
       joined = λ x y. λ i. entry (r.marks_size i) (r.joined i) x y;
       counts = λ c lc. r.counts c (omega (arith, lc, well.map.size)) ∙ tally.counts c (omega (arith, lc, ends_count next, ap (λ (l : List ℕ). length l) are)) ∙ ap (λ (l : List ℕ). count_into l edges c) are;
       newest = r.newest_is a ∙ here (a == a) (grind (arith, nat_tests)) ∙ tally.newest_is;

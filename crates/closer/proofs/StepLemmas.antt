@@ -81,16 +81,18 @@ module _ (s : OpenStore) (is : IsOpenStore s) (left : All (λ r. r.left.0 < leng
   marks_after next t a b = t.joined a b ∙ (λ x. cond (among_turned i j first last a ordered x && among_turned i j first last b ordered x) (m.round + k) (joined_of m.marks a b))
 
   one_step : (next : Manifest) (parts after : List (List Born)) → Tells (counts_of m.map) (joined_of m.marks) (newest_of m.marks) (state_in m parts) → FromZero n i j k (state_in m parts) (state_in next after) → AfterSteps n 1 (state_in m parts) (state_in next after)
-  one_step next parts after tells st =
-      (state_in m parts, refl,
-        record {
-          i = i;
-          j = j;
-          rounds = k;
-          pick = pick_told (counts_of m.map) (joined_of m.marks) (newest_of m.marks) (state_in m parts) tells i j (subst (λ (x : ℕ). IsPick (counts_of m.map) (joined_of m.marks) (newest_of m.marks) x i j) (sym (ends_count m)) pick);
-          step = st.0;
-          from_zero = st.1;
-        })
+  one_step next parts after tells st = (
+    state_in m parts,
+    refl,
+    record {
+      i = i;
+      j = j;
+      rounds = k;
+      pick = pick_told (counts_of m.map) (joined_of m.marks) (newest_of m.marks) (state_in m parts) tells i j (subst (λ (x : ℕ). IsPick (counts_of m.map) (joined_of m.marks) (newest_of m.marks) x i j) (sym (ends_count m)) pick);
+      step = st.0;
+      from_zero = st.1;
+    },
+  )
 
   -- ---- one partition
   module _ (same : first ≡ last) (p p' : Part) (x : IsPartIn s first p) (spelled : Spells (old (part_file m first)) p) (run : (budget : ℕ) → length p'.edges ≤ budget → IsPairRun n p.edges 0 m.round budget true k p'.edges) (p'-is : p' ≡ part_of m first p'.edges) (part : IsPart p') (format : All IsInFormat p'.edges) (next : Manifest)
@@ -144,9 +146,9 @@ module _ (s : OpenStore) (is : IsOpenStore s) (left : All (λ r. r.left.0 < leng
           grammar_copy = put.spares.below 2 (omega arith);
           edges_copy = put.spares.below 3 (omega arith);
           steps = λ parts listed tells.
-          let after = slice_set parts first p'.edges in
-          let size = length-set parts first p'.edges in
-          (after, listed_after n m next is.fits i j k t1 room fits_next old new parts after listed size (case_one parts listed), tells_after n m next is.fits i j k t1 room fits_next old new parts after listed size (case_one parts listed) tells, one_step next parts after tells (step_one parts listed));
+              let after = slice_set parts first p'.edges in
+              let size = length-set parts first p'.edges in
+              (after, listed_after n m next is.fits i j k t1 room fits_next old new parts after listed size (case_one parts listed), tells_after n m next is.fits i j k t1 room fits_next old new parts after listed size (case_one parts listed) tells, one_step next parts after tells (step_one parts listed));
         }
 
   -- ---- two partitions
@@ -225,7 +227,7 @@ module _ (s : OpenStore) (is : IsOpenStore s) (left : All (λ r. r.left.0 < leng
           grammar_copy = put'.spares.below 2 (omega arith) ∙ put.spares.below 2 (omega arith);
           edges_copy = put'.spares.below 3 (omega arith) ∙ put.spares.below 3 (omega arith);
           steps = λ parts listed tells.
-          let after = after_two parts in
-          let size = length-set (slice_set parts first p'.edges) last q'.edges ∙ length-set parts first p'.edges in
-          (after, listed_after n m next is.fits i j k t2 room fits_next old new parts after listed size (case_two parts listed), tells_after n m next is.fits i j k t2 room fits_next old new parts after listed size (case_two parts listed) tells, one_step next parts after tells (step_two parts listed));
+              let after = after_two parts in
+              let size = length-set (slice_set parts first p'.edges) last q'.edges ∙ length-set parts first p'.edges in
+              (after, listed_after n m next is.fits i j k t2 room fits_next old new parts after listed size (case_two parts listed), tells_after n m next is.fits i j k t2 room fits_next old new parts after listed size (case_two parts listed) tells, one_step next parts after tells (step_two parts listed));
         }

@@ -126,7 +126,7 @@ module _ (m next : Manifest) (fits : Fits m) (i j k : ℕ) (t : Turns m next i j
       let z : k ≡ 0 = omega (arith, none) in
       let same = kept z in
       let f =
-          marking_falls (counts_of m.map) (joined_of m.marks) (newest_of m.marks) (counts_of next.map) (joined_of next.marks) (newest_of next.marks) (length m.parts) (m.round + k) i j (λ a la. let h = fits.newest a la in omega (arith, h)) (λ a b la lb. (same a la).counts b) (λ a la. (same a la).newest) (λ a b la lb. t.joined a b) li lj dirty in
+      marking_falls (counts_of m.map) (joined_of m.marks) (newest_of m.marks) (counts_of next.map) (joined_of next.marks) (newest_of next.marks) (length m.parts) (m.round + k) i j (λ a la. let h = fits.newest a la in omega (arith, h)) (λ a b la lb. (same a la).counts b) (λ a la. (same a la).newest) (λ a b la lb. t.joined a b) li lj dirty in
       let p : dirty_pairs (counts_of next.map) (joined_of next.marks) (newest_of next.marks) (length next.parts) ≡ dirty_pairs (counts_of next.map) (joined_of next.marks) (newest_of next.marks) (length m.parts) = ap (λ (n : ℕ). dirty_pairs (counts_of next.map) (joined_of next.marks) (newest_of next.marks) n) parts_same in
       omega (arith, f, p, t.round_is, z))
       (cases_lt 0 k)

@@ -41,12 +41,7 @@ fn generation_after(generation: u8) -> u8
 
 /// The store's manifest with the next generation, so many rounds later, in which the pairs among
 /// partitions `i` and `j` are marked as joined.
-pub(crate) fn marked(
-    store: &Store,
-    i: usize,
-    j: usize,
-    rounds: u64,
-) -> Result<Manifest, AllocError>
+pub(crate) fn marked(store: &Store, i: usize, j: usize, rounds: u64) -> Result<Manifest, AllocError>
     requires i { i < length store.now.manifest.parts }
     requires j { j < length store.now.manifest.parts }
     requires room { store.now.manifest.round + rounds < 2 ^ 64 }
