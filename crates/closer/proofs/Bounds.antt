@@ -1,13 +1,12 @@
 -- How many edges a manifest can tell of.
-use Rattle.std.proofs.Common.{◌≡◌, ◌≢◌, ℕ, zero, suc, ◌+◌, ◌-◌, ◌*◌, ◌^◌, ◌<◌, ◌≤◌, ◌==◌, ◌⊎◌, Bool, true, false, cond, List, [], ◌∷◌, ◌++◌, length, get_or, refl, sym, ap, ◌∙◌, subst, arith, inl, inr, length-append}
-use Rattle.std.specs.Prelude.{sum, map, All, Option, Some, None, nat_lt, count_by}
+use Rattle.std.proofs.Common.{◌≡◌, ℕ, zero, suc, ◌+◌, ◌-◌, ◌*◌, ◌^◌, ◌<◌, ◌≤◌, ◌==◌, Bool, true, false, cond, List, [], ◌∷◌, length, get_or, refl, sym, ap, ◌∙◌, subst, arith, inl, inr}
+use Rattle.std.specs.Prelude.{sum, map, All, nat_lt}
 use Rattle.std.proofs.Math.Nat.{mul-le-mul_right}
 use Rattle.std.proofs.lemmas.Bool.{cases_lt}
 use Rattle.std.proofs.lemmas.Bool.Decides.{nat_tests}
 use Rattle.graph_words.specs.declared.types.Born.{Born}
 use Rattle.closing_machine.specs.State.{IsCut, place, target}
 use Rattle.closing_machine.specs.Machine.{high, low}
-use Rattle.closing_machine.specs.Capacity.{IsBetween, capacity}
 use Rattle.closing_machine.specs.Measure.{sum_below}
 use Rattle.closing_machine.proofs.Boxes.{passing_fit}
 use Rattle.closing_machine.proofs.Closing.{place_below}
@@ -20,7 +19,7 @@ use Rattle.manifest.specs.Rules.{widths}
 use Rattle.manifest.specs.Spelling.{Cover, Fits, width}
 use Rattle.store_law.specs.Listed.{ends_of, expect_of, part_of}
 use Rattle.store_law.proofs.Intervals.{cut_from_cover}
-use Rattle.open_store.specs.Reading.{IsTold, count_into}
+use Rattle.open_store.specs.Reading.{count_into}
 use Rattle.open_store.proofs.Tallies.{ends_count}
 use Rattle.closer.proofs.Sums.{row_sum, sum_at_most, sum_changed, sum_front, sum_of_counts, sum_same, sum_scaled, table_sum, two_changed}
 

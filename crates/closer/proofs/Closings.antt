@@ -1,11 +1,10 @@
 -- What a step answers, and what steps do.
-use Rattle.std.proofs.Common.{◌≡◌, ◌≢◌, ℕ, ◌+◌, ◌<◌, ◌≤◌, Bool, List, length, take, refl, sym, ap, ◌∙◌, subst, arith, true, inl, inr}
+use Rattle.std.proofs.Common.{◌≡◌, ℕ, ◌+◌, ◌<◌, ◌≤◌, Bool, List, length, take, refl, sym, ap, ◌∙◌, subst, arith, inl, inr}
 use Rattle.std.specs.Prelude.{All, IsTrue, Result, Ok, Err}
 use Rattle.std.proofs.lemmas.List.{take_all}
 use Rattle.graph_words.specs.declared.types.Rule.{Rule}
 use Rattle.normal_law.specs.NormalForm.{normal_form}
-use Rattle.closing_machine.specs.State.{IsDirtyBy, IsPick}
-use Rattle.closing_machine.specs.Machine.{is_among}
+use Rattle.closing_machine.specs.State.{IsPick}
 use Rattle.disk_model.specs.Disk.{Contents}
 use Rattle.disk_model.specs.Crash.{LeavesJust}
 use Rattle.disk_model.specs.declared.form_kind.FormKind.{FormKind}

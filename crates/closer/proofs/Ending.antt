@@ -1,5 +1,5 @@
 -- What holds of the manifest after a step.
-use Rattle.std.proofs.Common.{◌≡◌, ◌≢◌, ℕ, ◌+◌, ◌^◌, ◌<◌, ◌≤◌, ◌⊎◌, Bool, List, ◌++◌, length, take, refl, sym, ap, ◌∙◌, subst, arith, inl, inr, Option, Some, None}
+use Rattle.std.proofs.Common.{ℕ, ◌<◌, Bool, ◌++◌, length, sym, arith, Option, Some, None}
 use Rattle.std.specs.Prelude.{All, IsTrue}
 use Rattle.normal_law.specs.NormalForm.{normal_form}
 use Rattle.closing_machine.specs.State.{IsDirtyBy, IsPick}
@@ -14,7 +14,7 @@ use Rattle.open_store.specs.Store.{IsOpenStore, OpenStore}
 use Rattle.closer.specs.Continuing.{Continues, work_of}
 use Rattle.closer.specs.Making.{ArePairIn, ArePut, AreRun, AreSpelled, IsMarked, IsNext, IsOrderedPair}
 use Rattle.closer.proofs.Flat.{each_one, each_two, reached_one, reached_two, still_one, still_two, turns_one, turns_two}
-use Rattle.closer.proofs.Nexting.{ends_start, in_part, part_same, some_none, some_same, well_start}
+use Rattle.closer.proofs.Nexting.{ends_start, part_same, some_none, some_same, well_start}
 use Rattle.closer.proofs.StepLemmas.{goes_on_one, goes_on_two}
 use Rattle.closer.proofs.Turning.{Turns, next_fits, work_less}
 

@@ -1,22 +1,19 @@
 -- Each partition in the manifest after a step.
-use Rattle.std.proofs.Common.{◌≡◌, ◌≢◌, ℕ, zero, suc, ◌+◌, ◌-◌, ◌*◌, ◌^◌, ◌<◌, ◌≤◌, ◌==◌, ◌⊎◌, ◌&&◌, Bool, true, false, cond, List, [], ◌∷◌, ◌++◌, length, get_or, refl, sym, ap, ◌∙◌, subst, arith, inl, inr, Option, Some, None, length-append}
-use Rattle.std.specs.Prelude.{sum, map, All, Contains, IsTrue, slice_index_or}
+use Rattle.std.proofs.Common.{◌≡◌, ◌≢◌, ℕ, ◌+◌, ◌*◌, ◌<◌, ◌≤◌, ◌==◌, ◌⊎◌, Bool, true, false, List, ◌++◌, length, refl, sym, ap, ◌∙◌, subst, arith, inl, inr, length-append}
+use Rattle.std.specs.Prelude.{sum, All, Contains}
 use Rattle.std.proofs.lemmas.Bool.Decides.{nat_tests}
 use Rattle.std.proofs.lemmas.List.Elements.{All-contains, Contains-append_cases, Contains-append_left, Contains-append_right}
 use Rattle.graph_words.specs.declared.types.Born.{Born}
-use Rattle.normal_law.specs.Closure.{Normal}
 use Rattle.normal_law.specs.NormalForm.{normal_form}
 use Rattle.closing_machine.specs.State.{greatest_birth}
 use Rattle.closing_machine.specs.Rounds.{Rounds}
 use Rattle.closing_machine.specs.Machine.{is_among}
-use Rattle.closing_machine.specs.Measure.{sum_below}
 use Rattle.closing_machine.proofs.Falling.{no_rounds}
 use Rattle.closing_machine.proofs.Going.{rounds_longer}
 use Rattle.closing_machine.proofs.Members.{All-from_members, either}
-use Rattle.disk_model.specs.Disk.{Contents}
 use Rattle.partition_file.specs.Spelling.{FitsEdge, IsPart, Part}
 use Rattle.dest_map.specs.Table.{counts_of}
-use Rattle.pair_sched.specs.Marks.{joined_of, newest_of}
+use Rattle.pair_sched.specs.Marks.{newest_of}
 use Rattle.manifest.specs.declared.types.Manifest.{Manifest}
 use Rattle.manifest.specs.Spelling.{Fits}
 use Rattle.store_law.specs.Listed.{ends_of, part_of}
@@ -24,9 +21,9 @@ use Rattle.superstep.specs.Room.{IsInFormat}
 use Rattle.open_store.specs.Reading.{count_into}
 use Rattle.open_store.specs.Store.{OpenStore, expect_in}
 use Rattle.open_store.proofs.Tallies.{ends_count}
-use Rattle.closer.specs.Making.{ArePut2, AreRun, IsMarked, IsPartIn, TakesOn}
+use Rattle.closer.specs.Making.{IsMarked, IsPartIn, TakesOn}
 use Rattle.closer.proofs.Bounds.{map_total, row_total}
-use Rattle.closer.proofs.Nexting.{ends_start, in_part, kept_start, part_same, size_start, some_same}
+use Rattle.closer.proofs.Nexting.{ends_start, in_part, kept_start, size_start}
 use Rattle.closer.proofs.Running.{born_before, vertices_stay}
 use Rattle.closer.proofs.Sums.{row_sum, sum_changed, sum_same, table_sum, two_changed}
 use Rattle.closer.proofs.Turning.{KeptIn, NewIn, Turns}

@@ -1,36 +1,31 @@
 -- What a crash leaves during a step, and during steps.
-use Rattle.std.proofs.Common.{◌≡◌, ◌≢◌, ℕ, zero, suc, ◌+◌, ◌<◌, ◌≤◌, ◌⊎◌, Bool, List, length, take, get_or, refl, sym, ap, ◌∙◌, subst, arith, inl, inr, false}
-use Rattle.std.specs.Prelude.{All, IsTrue, Ok, Some, map, slice_index_or}
+use Rattle.std.proofs.Common.{◌≡◌, ◌≢◌, ℕ, ◌+◌, ◌<◌, ◌≤◌, List, length, get_or, refl, sym, ap, ◌∙◌, subst, arith, inl, inr}
+use Rattle.std.specs.Prelude.{All}
 use Rattle.std.proofs.lemmas.List.{get_or-map, length-take}
 use Rattle.graph_words.specs.declared.types.Rule.{Rule}
 use Rattle.normal_law.specs.Closure.{Normal}
 use Rattle.normal_law.specs.NormalForm.{normal_form}
-use Rattle.closing_machine.specs.State.{IsPick}
 use Rattle.closing_machine.proofs.Members.{either}
 use Rattle.disk_model.specs.Disk.{Contents}
 use Rattle.disk_model.specs.Crash.{From, LeavesJust, LeavesOnly}
-use Rattle.disk_model.specs.Run.{and_then, at_end, no_step, started, then_no_more, then_run}
+use Rattle.disk_model.specs.Run.{and_then, at_end, no_step, then_no_more, then_run}
 use Rattle.disk_files.specs.Files.{OnlyFile}
-use Rattle.dest_map.specs.Table.{counts_of}
-use Rattle.pair_sched.specs.Marks.{joined_of, newest_of}
 use Rattle.manifest.specs.declared.types.Manifest.{Manifest}
 use Rattle.manifest.specs.declared.types.PartEntry.{PartEntry}
 use Rattle.manifest.specs.Spelling.{Fits}
 use Rattle.manifest_switch.specs.declared.slot.Slot.{Slot}
 use Rattle.manifest_switch.specs.declared.slot.Slot.TheVariants.{One, Zero}
-use Rattle.manifest_switch.specs.declared.slot.Found.TheVariants.{At}
 use Rattle.manifest_switch.specs.Looks.{OnlyLooks}
-use Rattle.manifest_switch.specs.Slots.{HasOnly, chosen, current_of, file_of, is_open, open_body, other}
-use Rattle.manifest_switch.specs.Steps.{IsAmid, IsMade, IsSwitched, Stays, Switches}
+use Rattle.manifest_switch.specs.Slots.{chosen, current_of, file_of, is_open, open_body, other}
+use Rattle.manifest_switch.specs.Steps.{IsAmid, Stays, Switches}
 use Rattle.manifest_switch.proofs.LawLemmas.{alone_law}
 use Rattle.store_law.specs.Listed.{part_file}
 use Rattle.store_law.specs.Steps.{IsFree}
 use Rattle.open_store.specs.Copy.{IsCopyRead}
-use Rattle.open_store.specs.Store.{IsHeldAlone, IsOpenStore, OpenStore}
+use Rattle.open_store.specs.Store.{IsHeldAlone, OpenStore}
 use Rattle.closer.specs.Continuing.{Continues, GoesOn, Retains}
 use Rattle.closer.specs.Answers.{Moves}
-use Rattle.closer.specs.Making.{IsNext, Spares}
-use Rattle.closer.proofs.Ending.{Outcome, outcome}
+use Rattle.closer.specs.Making.{Spares}
 use Rattle.closer.proofs.LawLemmas.{continues_elsewhere, continues_further}
 
 no_entry : PartEntry

@@ -1,8 +1,7 @@
 -- Stores of two texts after steps, and after stops.
-use Rattle.std.proofs.Common.{◌≡◌, ℕ, zero, suc, ◌+◌, ◌<◌, ◌≤◌, List, [], true, length, take, refl, sym, ap, ◌∙◌, subst, arith, inl, inr}
-use Rattle.std.specs.Prelude.{slice_index_or, Ok}
+use Rattle.std.proofs.Common.{◌≡◌, ℕ, zero, suc, ◌+◌, ◌<◌, ◌≤◌, List, [], true, length, refl, sym, ap, ◌∙◌, subst, arith, inr}
+use Rattle.std.specs.Prelude.{slice_index_or}
 use Rattle.graph_words.specs.declared.types.Born.{Born}
-use Rattle.graph_words.specs.declared.types.Rule.{Rule}
 use Rattle.graph_words.specs.Text.{said, third}
 use Rattle.graph_words.specs.Reach.{Graph}
 use Rattle.std.specs.List.{flat_map}
@@ -11,12 +10,9 @@ use Rattle.grammar_norm.specs.GrammarText.{ReadsGrammar}
 use Rattle.normal_law.specs.Closure.{Normal}
 use Rattle.closing_machine.specs.State.{State}
 use Rattle.closing_machine.specs.Holds.{Holds, IsTask}
-use Rattle.closing_machine.specs.Tells.{Tells}
 use Rattle.closing_machine.proofs.Superstepping.{superstep_keeps}
 use Rattle.disk_model.specs.Disk.{Contents}
 use Rattle.partition_file.specs.Spelling.{Spells}
-use Rattle.dest_map.specs.Table.{counts_of}
-use Rattle.pair_sched.specs.Marks.{joined_of, newest_of}
 use Rattle.manifest.specs.declared.types.Manifest.{Manifest}
 use Rattle.manifest.specs.Spelling.{Fits}
 use Rattle.store_law.specs.Texts.{Texts, graph, normal, rules}

@@ -1,22 +1,18 @@
 -- What the manifest after a step lists and tells of.
-use Rattle.std.proofs.Common.{◌≡◌, ◌≢◌, ℕ, zero, suc, ◌+◌, ◌-◌, ◌*◌, ◌^◌, ◌<◌, ◌≤◌, ◌==◌, ◌⊎◌, ◌&&◌, Bool, true, false, cond, List, [], ◌∷◌, ◌++◌, length, get_or, refl, sym, ap, ◌∙◌, subst, arith, inl, inr}
-use Rattle.std.specs.Prelude.{map, All, Contains, IsTrue, slice_index_or, filter, count_by}
-use Rattle.std.proofs.lemmas.Bool.Decides.{nat_tests}
+use Rattle.std.proofs.Common.{◌≡◌, ℕ, zero, suc, ◌+◌, ◌^◌, ◌<◌, ◌≤◌, ◌==◌, ◌⊎◌, ◌&&◌, Bool, true, false, cond, List, [], ◌∷◌, length, get_or, refl, sym, ap, ◌∙◌, subst, arith, inl, inr}
+use Rattle.std.specs.Prelude.{Contains, slice_index_or, filter, count_by}
 use Rattle.std.proofs.lemmas.List.Elements.{All-contains}
-use Rattle.std.proofs.lemmas.List.Sums.{length-filter, sum_by-cons}
+use Rattle.std.proofs.lemmas.List.Sums.{sum_by-cons}
 use Rattle.graph_words.specs.declared.types.Born.{Born}
 use Rattle.normal_law.specs.Closure.{Normal}
-use Rattle.normal_law.specs.NormalForm.{normal_form}
-use Rattle.closing_machine.specs.State.{IsCut, State, count, edges_of, greatest_birth, newest, part, target}
+use Rattle.closing_machine.specs.State.{IsCut, count, edges_of, greatest_birth, newest, part, target}
 use Rattle.closing_machine.specs.Machine.{high, low}
-use Rattle.closing_machine.specs.Capacity.{capacity}
 use Rattle.closing_machine.specs.Parts.{ArePartitions, all_edges, state_of}
 use Rattle.closing_machine.specs.Tells.{Tells}
 use Rattle.closing_machine.proofs.Members.{All-from_members, either}
 use Rattle.closing_machine.proofs.Partitions.{all_where_one, filter_partitions}
 use Rattle.closing_machine.proofs.Room.{capacity_bounds}
 use Rattle.disk_model.specs.Disk.{Contents}
-use Rattle.partition_file.specs.declared.types.Expect.{Expect}
 use Rattle.partition_file.specs.Spelling.{Fits as PartFits, FitsEdge, IsExpect, IsPart, Part, Spells}
 use Rattle.partition_file.proofs.FileLaws.{one_part}
 use Rattle.dest_map.specs.Table.{counts_of}

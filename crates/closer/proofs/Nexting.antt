@@ -1,42 +1,30 @@
 -- What a step makes of a manifest, seen partition by partition.
-use Rattle.std.proofs.Common.{◌≡◌, ◌≢◌, ℕ, zero, suc, ◌+◌, ◌-◌, ◌*◌, ◌^◌, ◌<◌, ◌≤◌, ◌==◌, ◌⊎◌, ◌&&◌, Bool, true, false, cond, List, [], ◌∷◌, ◌++◌, length, get_or, refl, sym, ap, ◌∙◌, subst, arith, inl, inr, Option, Some, None}
-use Rattle.std.specs.Prelude.{sum, map, All, AllPairs, Contains, IsTrue, slice_index_or}
-use Rattle.std.proofs.lemmas.Bool.Decides.{nat_tests}
-use Rattle.std.proofs.lemmas.List.Elements.{All-contains, Contains-append_cases, Contains-append_left, Contains-append_right}
+use Rattle.std.proofs.Common.{◌≡◌, ◌≢◌, ℕ, ◌*◌, ◌<◌, ◌≤◌, Bool, true, false, List, ◌++◌, length, sym, ap, ◌∙◌, subst, arith, Option, Some, None}
+use Rattle.std.specs.Prelude.{map, All, AllPairs, Contains, IsTrue, slice_index_or}
+use Rattle.std.proofs.lemmas.List.Elements.{All-contains, Contains-append_left, Contains-append_right}
 use Rattle.graph_words.specs.declared.types.Born.{Born}
-use Rattle.graph_words.specs.declared.types.LabelId.{LabelId}
 use Rattle.normal_law.specs.Closure.{Normal}
 use Rattle.normal_law.specs.NormalForm.{normal_form}
-use Rattle.normal_form.specs.Grammar.{IsGrammar}
-use Rattle.closing_machine.specs.State.{greatest_birth}
 use Rattle.closing_machine.specs.Rounds.{IsOrdered, Rounds}
-use Rattle.closing_machine.specs.Machine.{high, is_among, low}
-use Rattle.closing_machine.specs.PairRun.{IsPairRun}
-use Rattle.closing_machine.specs.Measure.{sum_below}
-use Rattle.closing_machine.proofs.Falling.{no_rounds}
-use Rattle.closing_machine.proofs.Going.{rounds_longer}
-use Rattle.closing_machine.proofs.Members.{All-from_members, either}
+use Rattle.closing_machine.specs.Machine.{high, low}
 use Rattle.closing_machine.proofs.Ordered.{same_ordered}
 use Rattle.closing_machine.proofs.Rounding.{rounds_grow}
 use Rattle.disk_model.specs.Disk.{Contents}
-use Rattle.partition_file.specs.Spelling.{Fits as PartFits, FitsEdge, IsPart, Part, Spells}
+use Rattle.partition_file.specs.Spelling.{IsPart, Part, Spells}
 use Rattle.dest_map.specs.Table.{counts_of}
-use Rattle.pair_sched.specs.Marks.{joined_of, newest_of}
 use Rattle.manifest.specs.declared.types.PartEntry.{PartEntry}
 use Rattle.manifest.specs.declared.types.Manifest.{Manifest}
-use Rattle.manifest.specs.Spelling.{AreMarks, Fits, IsMap}
-use Rattle.store_law.specs.Listed.{ends_of, expect_of, part_file, part_of}
+use Rattle.manifest.specs.Spelling.{Fits, IsMap}
+use Rattle.store_law.specs.Listed.{ends_of, part_file, part_of}
 use Rattle.row_table.specs.declared.span.Span.{Span}
-use Rattle.row_table.specs.Loaded.{loaded_of, span_of}
-use Rattle.superstep.specs.Room.{IsInFormat}
+use Rattle.row_table.specs.Loaded.{span_of}
 use Rattle.open_store.specs.Reading.{IsTold, count_into}
-use Rattle.open_store.specs.Store.{IsOpenStore, OpenStore, expect_in}
+use Rattle.open_store.specs.Store.{OpenStore}
 use Rattle.open_store.proofs.Tallies.{ends_count}
-use Rattle.closer.specs.Making.{ArePairIn, ArePut, ArePut2, AreRun, AreSpelled, IfHigh, IsMarked, IsNext, IsOrderedPair, IsPartIn, IsWell, MayPut, MayPutPair, Puts, Spares, TakesOn}
-use Rattle.closer.proofs.Bounds.{cut, map_total, row_total}
-use Rattle.closer.proofs.Running.{born_before, cut_apart, in_first, in_second, old_one, vertices_stay}
-use Rattle.closer.proofs.Sums.{row_sum, sum_changed, sum_same, table_sum, two_changed}
-use Rattle.closer.proofs.Turning.{KeptIn, NewIn, Turns}
+use Rattle.closer.specs.Making.{ArePairIn, AreRun, AreSpelled, IsMarked, IsWell, MayPut, MayPutPair}
+use Rattle.closer.proofs.Bounds.{cut}
+use Rattle.closer.proofs.Running.{cut_apart, in_first, in_second, old_one}
+use Rattle.closer.proofs.Turning.{KeptIn}
 
 -- a partition with the bounds of a partition of the manifest is one of its intervals
 pub part_same : (m : Manifest) (a : ℕ) (p p' : Part) → p ≡ part_of m a p.edges → span_of p' ≡ span_of p → p' ≡ part_of m a p'.edges

@@ -1,9 +1,9 @@
 -- A partition is put, and the manifest that is made tells of it.
-use Rattle.std.proofs.Common.{◌≡◌, ◌≢◌, ℕ, zero, suc, [], ◌∷◌, ◌+◌, ◌*◌, ◌<◌, ◌≤◌, ◌==◌, ◌⊎◌, ◌&&◌, Bool, true, false, cond, List, length, get_or, refl, sym, ap, ◌∙◌, subst, arith, inl, inr, Option, Some, None}
+use Rattle.std.proofs.Common.{◌≡◌, ◌≢◌, ℕ, zero, suc, [], ◌∷◌, ◌+◌, ◌*◌, ◌<◌, ◌≤◌, ◌==◌, ◌&&◌, Bool, true, false, cond, List, length, get_or, refl, sym, ap, ◌∙◌, subst, arith, Option, Some, None}
 use Rattle.std.specs.Prelude.{map, All, AllPairs, Contains, IfOk, IsTrue, Result, Ok, Err, slice_index_or, slice_set}
 use Rattle.std.proofs.lemmas.Bool.Decides.{nat_tests}
 use Rattle.std.proofs.Math.Seq.{map-set_same}
-use Rattle.std.proofs.lemmas.List.{get_or-map, get_or-set_other, get_or-set_same, length-map, length-set, map-set}
+use Rattle.std.proofs.lemmas.List.{get_or-map, get_or-set_other, get_or-set_same, length-map, map-set}
 use Rattle.std.proofs.lemmas.List.Elements.{All-contains}
 use Rattle.graph_words.specs.declared.types.Born.{Born}
 use Rattle.closing_machine.specs.State.{greatest_birth}
@@ -12,9 +12,9 @@ use Rattle.disk_model.specs.Disk.{Contents, Sets}
 use Rattle.disk_files.specs.Files.{only_set}
 use Rattle.partition_file.specs.declared.types.Format.TheVariants.{First}
 use Rattle.partition_file.specs.Spelling.{Part, Spells, spelling}
-use Rattle.dest_map.specs.Table.{counts_of, entry}
+use Rattle.dest_map.specs.Table.{entry}
 use Rattle.dest_map.proofs.TableLemmas.{entry_set}
-use Rattle.pair_sched.specs.Marks.{joined_of, newest_of}
+use Rattle.pair_sched.specs.Marks.{newest_of}
 use Rattle.manifest.specs.declared.types.PartEntry.{PartEntry}
 use Rattle.manifest.specs.declared.types.Manifest.{Manifest}
 use Rattle.store_law.specs.Listed.{ends_of, part_file}
@@ -24,7 +24,7 @@ use Rattle.open_store.specs.Reading.{count_into}
 use Rattle.open_store.specs.Streaming.{IsTally}
 use Rattle.open_store.specs.Store.{OpenStore}
 use Rattle.open_store.proofs.Tallies.{ends_count}
-use Rattle.closer.specs.Making.{ArePut, ArePut2, IsWell, MayPut, MayPutPair, Puts, Refiles, Replaces, Spares, TakesOn}
+use Rattle.closer.specs.Making.{ArePut, IsWell, MayPut, MayPutPair, Puts, Refiles, Replaces, TakesOn}
 use Rattle.closer.proofs.Flat.{is_it}
 use Rattle.closer.proofs.Images.{spares_only, spares_refl}
 

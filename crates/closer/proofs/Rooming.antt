@@ -1,20 +1,18 @@
 -- There is room for the rounds on loaded partitions.
-use Rattle.std.proofs.Common.{◌≡◌, ◌≢◌, ℕ, ◌+◌, ◌-◌, ◌*◌, ◌^◌, ◌<◌, ◌≤◌, ◌⊎◌, Bool, true, List, ◌++◌, length, refl, sym, ap, ◌∙◌, subst, arith, inl, inr, Option, Some, None, length-append}
+use Rattle.std.proofs.Common.{◌≡◌, ℕ, ◌+◌, ◌-◌, ◌*◌, ◌^◌, ◌<◌, ◌≤◌, Bool, true, List, ◌++◌, length, sym, ap, ◌∙◌, subst, arith, Option, Some, None, length-append}
 use Rattle.std.specs.Prelude.{All, Contains}
-use Rattle.std.proofs.lemmas.List.Elements.{All-contains, Contains-append_cases}
+use Rattle.std.proofs.lemmas.List.Elements.{Contains-append_cases}
 use Rattle.graph_words.specs.declared.types.Born.{Born}
 use Rattle.normal_law.specs.Closure.{Normal}
 use Rattle.normal_law.specs.NormalForm.{normal_form}
 use Rattle.normal_form.proofs.NormalLemmas.{fresh_few}
-use Rattle.closing_machine.specs.Machine.{high, low}
 use Rattle.closing_machine.specs.Capacity.{capacity}
 use Rattle.closing_machine.specs.PairRun.{IsPairRun}
 use Rattle.closing_machine.proofs.Going.{rounds_longer}
 use Rattle.closing_machine.proofs.Members.{All-from_members, either}
 use Rattle.partition_file.specs.Spelling.{IsPart, Part}
-use Rattle.manifest.specs.declared.types.Manifest.{Manifest}
-use Rattle.manifest.specs.Spelling.{Fits, width}
-use Rattle.store_law.specs.Listed.{ends_of, part_of}
+use Rattle.manifest.specs.Spelling.{width}
+use Rattle.store_law.specs.Listed.{ends_of}
 use Rattle.row_table.specs.Loaded.{IsLoaded, Loaded, StandsBehind, loaded_of}
 use Rattle.superstep.specs.Room.{IsInFormat, capacity_of}
 use Rattle.superstep.proofs.RoomLemmas.{fits}

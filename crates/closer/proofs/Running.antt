@@ -1,23 +1,20 @@
 -- What rounds make of loaded partitions.
-use Rattle.std.proofs.Common.{◌≡◌, ◌≢◌, ℕ, zero, suc, ◌+◌, ◌<◌, ◌≤◌, ◌⊎◌, Bool, true, List, [], ◌∷◌, ◌++◌, length, get_or, refl, sym, ap, ◌∙◌, subst, arith, inl, inr, Option, Some, None}
+use Rattle.std.proofs.Common.{ℕ, zero, suc, ◌+◌, ◌<◌, ◌≤◌, ◌⊎◌, List, [], ◌∷◌, ◌++◌, length, get_or, sym, subst, arith, inl, inr}
 use Rattle.std.specs.Prelude.{All, Contains}
-use Rattle.std.proofs.lemmas.List.Elements.{All-contains, Contains-append_cases, Contains-append_left, Contains-append_right}
+use Rattle.std.proofs.lemmas.List.Elements.{All-contains, Contains-append_cases}
 use Rattle.graph_words.specs.declared.types.Born.{Born}
-use Rattle.graph_words.specs.declared.types.Edge.{Edge}
 use Rattle.graph_words.specs.declared.types.LabelId.{LabelId}
 use Rattle.graph_words.specs.declared.types.Rule.{Rule}
 use Rattle.graph_words.specs.Reach.{rule}
-use Rattle.normal_law.specs.Closure.{HasNamedLabels, IsFresh, IsNamed, IsUp, Normal, itself, above}
+use Rattle.normal_law.specs.Closure.{IsFresh, IsUp, Normal, itself, above}
 use Rattle.normal_law.specs.Closed.{Joins}
 use Rattle.normal_law.specs.NormalForm.{normal_form}
 use Rattle.normal_law.proofs.Chains.{IsNormalForm-normal_form}
 use Rattle.normal_form.specs.Grammar.{IsGrammar}
 use Rattle.closing_machine.specs.State.{IsCut}
-use Rattle.closing_machine.specs.Rounds.{HasEdge, IsJoin, IsOrdered, Rounds, born}
+use Rattle.closing_machine.specs.Rounds.{Rounds}
 use Rattle.closing_machine.proofs.Members.{either}
-use Rattle.closing_machine.proofs.Ordered.{same_ordered}
-use Rattle.closing_machine.proofs.Rounding.{rounds_births, rounds_cases, rounds_grow, rounds_keep}
-use Rattle.closer.specs.Making.{AreRun}
+use Rattle.closing_machine.proofs.Rounding.{rounds_births, rounds_cases, rounds_keep}
 
 -- ---- labels
 

@@ -1,25 +1,23 @@
 -- A step goes on from the store before.
-use Rattle.std.proofs.Common.{◌≡◌, ◌≢◌, ℕ, zero, suc, ◌+◌, ◌-◌, ◌*◌, ◌^◌, ◌<◌, ◌≤◌, ◌==◌, ◌||◌, ◌⊎◌, ◌&&◌, Bool, true, false, cond, List, [], ◌∷◌, ◌++◌, length, get_or, refl, sym, ap, ◌∙◌, subst, arith, inl, inr, Option, Some, None}
-use Rattle.std.specs.Prelude.{sum, map, All, Contains, IsTrue, slice_index_or, slice_set}
-use Rattle.std.proofs.lemmas.Bool.Decides.{nat_tests}
+use Rattle.std.proofs.Common.{◌≡◌, ◌≢◌, ℕ, ◌+◌, ◌^◌, ◌<◌, ◌≤◌, ◌==◌, ◌||◌, ◌⊎◌, ◌&&◌, Bool, true, false, cond, List, [], ◌++◌, length, get_or, refl, sym, ap, ◌∙◌, subst, arith, inl, inr}
+use Rattle.std.specs.Prelude.{All, Contains, slice_set}
 use Rattle.std.proofs.lemmas.List.{get_or-set_other, get_or-set_same, length-set}
 use Rattle.std.proofs.lemmas.List.Elements.{Contains-append_cases, Contains-append_left, Contains-append_right}
 use Rattle.graph_words.specs.declared.types.Born.{Born}
 use Rattle.normal_law.specs.Closure.{Normal}
 use Rattle.normal_law.specs.NormalForm.{normal_form}
-use Rattle.normal_form.specs.Grammar.{IsGrammar}
-use Rattle.closing_machine.specs.State.{IsPick, State, count, newest}
+use Rattle.closing_machine.specs.State.{IsPick, State}
 use Rattle.closing_machine.specs.Rounds.{Rounds}
 use Rattle.closing_machine.specs.Machine.{IsSuperstep, high, is_among, low, mark_after}
 use Rattle.closing_machine.specs.PairRun.{IsPairRun}
-use Rattle.closing_machine.specs.Parts.{ArePartitions, IsPartition, state_of}
+use Rattle.closing_machine.specs.Parts.{IsPartition, state_of}
 use Rattle.closing_machine.specs.Tells.{Tells}
 use Rattle.closing_machine.proofs.Members.{either}
 use Rattle.closing_machine.proofs.Storing.{superstep_on_one, superstep_on_two}
 use Rattle.closing_machine.proofs.Swapping.{superstep_swap}
 use Rattle.closing_machine.proofs.Telling.{pick_told}
 use Rattle.disk_model.specs.Disk.{Contents}
-use Rattle.partition_file.specs.Spelling.{Fits as PartFits, FitsEdge, IsPart, Part, Spells}
+use Rattle.partition_file.specs.Spelling.{IsPart, Part, Spells}
 use Rattle.dest_map.specs.Table.{counts_of}
 use Rattle.pair_sched.specs.Marks.{joined_of, newest_of}
 use Rattle.manifest.specs.declared.types.PartEntry.{PartEntry}
@@ -28,16 +26,16 @@ use Rattle.manifest.specs.Spelling.{Fits}
 use Rattle.store_law.specs.Listed.{AreListed, ends_of, part_file, part_of, state_in}
 use Rattle.store_law.proofs.Intervals.{listed_partitions}
 use Rattle.superstep.specs.Room.{IsInFormat}
-use Rattle.open_store.specs.Store.{IsOpenStore, OpenStore, expect_in}
+use Rattle.open_store.specs.Store.{IsOpenStore, OpenStore}
 use Rattle.open_store.proofs.Tallies.{ends_count}
-use Rattle.closer.specs.Continuing.{AfterSteps, Continues, IsStepFromZero}
-use Rattle.closer.specs.Making.{ArePut2, IsMarked, IsOrderedPair, IsPartIn, Puts, TakesOn}
+use Rattle.closer.specs.Continuing.{AfterSteps, Continues}
+use Rattle.closer.specs.Making.{IsMarked, IsOrderedPair, IsPartIn, Puts, TakesOn}
 use Rattle.closer.proofs.Bounds.{cut}
-use Rattle.closer.proofs.Flat.{each_one, each_two, edge_fits, is_it, kept_one, kept_two, new_high, new_low, new_one, turns_one, turns_two}
+use Rattle.closer.proofs.Flat.{edge_fits, is_it, kept_one, kept_two, new_high, new_low, new_one, turns_one, turns_two}
 use Rattle.closer.proofs.Listing.{ComesIn, StaysIn, listed_after, listed_here, tells_after}
 use Rattle.closer.proofs.Nexting.{file_start, in_part}
 use Rattle.closer.proofs.Running.{IsKnown, joins_known, labels_stay}
-use Rattle.closer.proofs.Turning.{KeptIn, NewIn, Turns}
+use Rattle.closer.proofs.Turning.{NewIn, Turns}
 
 -- a superstep whose first round goes over all edges
 abbrev FromZero : Normal → ℕ → ℕ → ℕ → State → State → Type 0

@@ -1,7 +1,6 @@
 -- What steps of closing answer, and why.
 use Rattle.std.specs.Prelude.{◌≡◌, ◌⊎◌, ℕ, ◌<◌, true, Bool, IsTrue, length}
 use Rattle.normal_law.specs.NormalForm.{normal_form}
-use Rattle.normal_law.specs.Closure.{Normal}
 use Rattle.closing_machine.specs.State.{IsPick}
 use Rattle.closing_machine.specs.Machine.{is_among}
 use Rattle.disk_model.specs.Disk.{Contents}
@@ -9,7 +8,6 @@ use Rattle.disk_model.specs.Crash.{LeavesJust}
 use Rattle.disk_model.specs.declared.form_kind.FormKind.{FormKind}
 use Rattle.dest_map.specs.Table.{counts_of}
 use Rattle.pair_sched.specs.Marks.{joined_of, newest_of}
-use Rattle.manifest.specs.declared.types.Manifest.{Manifest}
 use Rattle.manifest_switch.specs.Slots.{other}
 use Rattle.store_law.specs.Listed.{part_file}
 use Rattle.store_law.specs.Left.{IsDone}

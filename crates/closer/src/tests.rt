@@ -1,4 +1,9 @@
 //! What no clause says: that steps succeed, what a worked example lists in the end, and which fault comes where a call fails.
+ghost use Rattle.std.specs.Prelude.{IfOk};
+ghost use Rattle.disk_model.specs.Disk.{Contents};
+ghost use Rattle.disk_model.specs.MemDisk.{images_of};
+ghost use Rattle.open_store.specs.Store.{IsHeldAlone};
+
 use super::*;
 use disk_model::{Disk, MemDisk};
 use grammar_norm::read_grammar;
@@ -26,20 +31,28 @@ fn edge_file(alloc: Global) -> Result<MemInputs, StoreFault> {
     Ok(MemInputs::new(vec![in alloc; NamedBytes { name, bytes }]?))
 }
 
-// The brackets, imported in partitions of so many edges where the disk is blank, and closed.
-fn closed(alloc: Global, disk: &mut MemDisk, limit: u64) -> Result<Store, StoreFault> {
+// The brackets, imported to a blank disk in partitions of so many edges.
+fn imported(alloc: Global, disk: &mut MemDisk, limit: u64) -> Result<Store, StoreFault>
+    ensures held { IfOk result (λ s. (c : Contents) → images_of disk.new c → IsHeldAlone s c) }
+{
     let mut inputs = edge_file(alloc)?;
     let grammar = GRAMMAR.as_slice();
     let Ok(_read) = read_grammar(alloc, grammar) else {
         return Err(StoreFault::NoMemory);
     };
     match open(alloc, disk, OpenMode::Change)? {
-        Opened::Blank => {
-            let store = import(alloc, &mut inputs, "e", grammar, disk, limit)?;
-            run_to_end(alloc, disk, store, &OPTIONS)
-        }
-        Opened::Found(store) => run_to_end(alloc, disk, store, &OPTIONS),
+        Opened::Blank => import(alloc, &mut inputs, "e", grammar, disk, limit),
+        Opened::Found(_) => Err(StoreFault::NoMemory),
     }
+}
+
+// The brackets, closed in partitions of so many edges.
+fn closed(alloc: Global, disk: &mut MemDisk, limit: u64) -> Result<Store, StoreFault>
+    ensures held { IfOk result (λ s. (c : Contents) → images_of disk.new c → IsHeldAlone s c) }
+{
+    let store = imported(alloc, disk, limit)?;
+    let last = run_to_end(alloc, disk, store, &OPTIONS)?;
+    Ok(last)
 }
 
 // How many edges a partition lists, and none where it can't be loaded.
@@ -75,9 +88,9 @@ fn brackets_close_in_two_partitions(rt: HostRuntime) -> Result<(), Fail> {
     Ok(())
 }
 
-// How many writes a further step makes, where it answers that no work is left.
+// How many writes a step makes on the closed brackets, where it answers that no work is left.
 fn writes_of_a_step(alloc: Global, disk: &mut MemDisk) -> Option<u64> {
-    let Ok(Opened::Found(store)) = open(alloc, disk, OpenMode::Change) else {
+    let Ok(store) = closed(alloc, disk, 1) else {
         return None;
     };
     let before = disk.writes();
@@ -90,8 +103,6 @@ fn writes_of_a_step(alloc: Global, disk: &mut MemDisk) -> Option<u64> {
 #[test]
 fn a_finished_store_stays_as_it_is(rt: HostRuntime) -> Result<(), Fail> {
     let mut disk = MemDisk::new(rt.alloc())?;
-    let store = closed(rt.alloc(), &mut disk, 1);
-    assert!(rt; store.is_ok());
     assert_eq!(rt; writes_of_a_step(rt.alloc(), &mut disk), Some(0));
     Ok(())
 }

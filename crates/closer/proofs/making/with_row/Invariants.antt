@@ -1,4 +1,4 @@
-use Rattle.std.proofs.Common.{◌≡◌, ◌≢◌, ◌<◌, ◌≤◌, ◌*◌, ℕ, length, slice_index_or}
+use Rattle.std.proofs.Common.{◌≡◌, ◌≢◌, ◌<◌, ◌*◌, ℕ, length, slice_index_or}
 use Rattle.dest_map.specs.Table.{counts_of, entry}
 use Rattle.closer.proofs.making.with_row.Given as goal
 

@@ -1,5 +1,4 @@
-use Rattle.std.proofs.Common.{◌||◌, ◌==◌, ap, refl, subst, arith}
-use Rattle.std.proofs.lemmas.Bool.Decides.{nat_tests}
+use Rattle.std.proofs.Common.{subst}
 use Rattle.disk_model.specs.Disk.{Contents}
 use Rattle.open_store.specs.Reading.{IsRefused}
 use Rattle.open_store.proofs.Causes.{handed}

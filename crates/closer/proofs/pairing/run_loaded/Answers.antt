@@ -1,6 +1,5 @@
-use Rattle.std.proofs.Common.{◌≡◌, ◌∙◌, ◌+◌, ◌-◌, ◌^◌, ◌<◌, ℕ, List, ap, sym, subst, length, arith}
+use Rattle.std.proofs.Common.{◌∙◌, ◌-◌, List, ap, sym, subst, length, arith}
 use Rattle.std.specs.Prelude.{All}
-use Rattle.graph_words.specs.declared.types.Born.{Born}
 use Rattle.graph_words.specs.declared.types.Rule.{Rule}
 use Rattle.normal_law.specs.NormalForm.{normal_form}
 use Rattle.manifest.specs.declared.types.Manifest.{Manifest}

@@ -1,5 +1,5 @@
-use Rattle.std.proofs.Common.{◌≡◌, ◌≤◌, ◌∙◌, ap, sym, subst, arith, refl, List, ℕ, length}
-use Rattle.std.specs.Prelude.{All, Contains}
+use Rattle.std.proofs.Common.{◌≤◌, ◌∙◌, ap, sym, subst, refl, List, ℕ}
+use Rattle.std.specs.Prelude.{Contains}
 use Rattle.graph_words.specs.declared.types.Born.{Born}
 use Rattle.manifest.specs.declared.types.Manifest.{Manifest}
 use Rattle.open_store.specs.Streaming.{IsTally}

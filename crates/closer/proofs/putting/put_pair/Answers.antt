@@ -1,4 +1,4 @@
-use Rattle.std.proofs.Common.{◌≡◌, arith, subst, Option}
+use Rattle.std.proofs.Common.{arith, subst, Option}
 use Rattle.partition_file.specs.Spelling.{Part}
 use Rattle.closer.specs.Making.{MayPutPair}
 use Rattle.closer.proofs.Images.{further}

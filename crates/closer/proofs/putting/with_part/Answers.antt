@@ -1,4 +1,4 @@
-use Rattle.std.proofs.Common.{◌∙◌, ap, sym, arith, refl, get_or, List, ℕ}
+use Rattle.std.proofs.Common.{◌∙◌, ap, sym, refl, get_or, List, ℕ}
 use Rattle.closer.proofs.putting.with_part.Goals as goal
 
 pub returns : goal.returns

@@ -1,4 +1,4 @@
-use Rattle.std.proofs.Common.{◌≡◌, ◌≤◌, arith, sym, subst}
+use Rattle.std.proofs.Common.{◌≤◌, arith, sym, subst}
 use Rattle.disk_model.specs.Disk.{Contents}
 use Rattle.disk_model.specs.Run.{if_ok}
 use Rattle.open_store.proofs.Causes.{handed}

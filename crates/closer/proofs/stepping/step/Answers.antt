@@ -1,5 +1,4 @@
-use Rattle.std.proofs.Common.{◌≡◌, ◌≤◌, arith, sym, subst, refl}
-use Rattle.std.specs.Prelude.{IsTrue}
+use Rattle.std.proofs.Common.{◌≤◌, arith, refl}
 use Rattle.closer.proofs.Closings.{blamed_pick, clean, goes_on, labels_begin, picked, same_size, stepped}
 use Rattle.open_store.proofs.Causes.{handed}
 use Rattle.closer.proofs.Ending.{outcome}

@@ -1,4 +1,4 @@
-use Rattle.std.proofs.Common.{◌≡◌, ◌≤◌, ◌∙◌, ℕ, refl, subst, arith, inl}
+use Rattle.std.proofs.Common.{◌≡◌, ◌∙◌, refl, subst, arith, inl}
 use Rattle.normal_law.specs.NormalForm.{normal_form}
 use Rattle.store_law.specs.Left.{IsDone}
 use Rattle.open_store.proofs.Causes.{handed}
