@@ -1,2 +1,5 @@
+pub mod GrammarLemmas
+pub mod ExplainLemmas
+pub mod ReadyLemmas
 pub mod PrintLemmas
-pub mod RunLemmas
+pub mod LookLemmas

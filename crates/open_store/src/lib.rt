@@ -3,6 +3,7 @@
 
 mod committing;
 mod comparing;
+mod counting;
 mod fault;
 mod grammar_copy;
 mod loading;
@@ -16,6 +17,7 @@ pub use comparing::same_input;
 pub use fault::StoreFault;
 pub use opening::{OpenMode, Opened, open};
 pub use store::Store;
+pub use tally::Tally;
 
 #[cfg(test)]
 mod tests;

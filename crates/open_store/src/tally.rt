@@ -12,8 +12,10 @@ use std::alloc::{AllocError, Global};
 
 /// How many edges end in each interval, and the greatest birth among them, 0 where there is none.
 #[derive(Drop)]
-pub(crate) struct Tally {
+pub struct Tally {
+    /// The number of edges that end in each interval, in order.
     pub row: Vec<u64>,
+    /// The greatest birth.
     pub newest: u64,
 }
 

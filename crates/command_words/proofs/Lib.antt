@@ -1,0 +1,7 @@
+mod CutLemmas
+mod NumberLemmas
+mod GivenLemmas
+mod KindLemmas
+mod CutsLemmas
+mod ReadingLemmas
+mod AskLemmas

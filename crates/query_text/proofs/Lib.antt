@@ -1,0 +1,7 @@
+pub mod Gathering
+pub mod Reading
+pub mod Showing
+pub mod Places
+pub mod Listed
+pub mod Counts
+pub mod Summing
