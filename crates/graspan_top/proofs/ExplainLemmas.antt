@@ -1,6 +1,6 @@
 -- Why a run answers as it does, from what its steps say.
-use Rattle.std.proofs.Common.{◌≡◌, ◌⊎◌, inl, inr, ℕ, ◌≤◌, List, Option, Some, Ok, Err, refl, sym, ap, subst, ◌∙◌, arith}
-use Rattle.std.specs.Prelude.{IsTrue, Bool}
+use Rattle.std.proofs.Common.{◌≡◌, ◌⊎◌, inl, inr, ℕ, ◌≤◌, List, length, Option, Some, Ok, Err, refl, sym, ap, subst, ◌∙◌, arith}
+use Rattle.std.specs.Prelude.{IsTrue, Bool, Result, IfErr, IsErrAnd}
 use Rattle.io_edge.specs.Devices.{Rose}
 use Rattle.io_edge.specs.declared.kinds.InputFile.TheVariants.{Grammar, Edges, Source}
 use Rattle.edge_text.specs.EdgesText.{edges_fault}
@@ -20,6 +20,7 @@ use Rattle.open_store.specs.Opening.{IsBadStore}
 use Rattle.open_store.specs.Store.{OpenStore}
 use Rattle.store.specs.Import.{HasImportCause}
 use Rattle.closer.specs.Answers.{BlamesOnTheWay}
+use Rattle.query_text.specs.Answered.{IsBlamed}
 use Rattle.graspan_top.specs.Faults.{of_store}
 use Rattle.graspan_top.specs.Given.{Given, WhereTold}
 use Rattle.graspan_top.specs.Run.{Accepts, Blames, DiffersIn, IsGoodGrammar, IsOpenedAs, IsUnknown, RunExplains, opening, closing, printing}
@@ -73,22 +74,22 @@ module _ (x : Given) (edges grammar : List ℕ) where
     good_file f told = subst IsGoodGrammar (file.is_file f told) file.good
 
     -- opening is refused
-    pub open_explains : {T : Type 0} (show : Option (List ℕ)) (after : Contents) (er gr wr : Type 0) (before now : ℕ) (bad : ℕ → ℕ → FormKind → Type 0) → ((f p : ℕ) (k : FormKind) → bad f p k → IsTrue x.tells → IsBadStore x.before f p k) → (f : StoreFault) → HasDiskCause {T = T} before now bad (Err f) → RunExplains x edges grammar show after er gr (DiskRose before now) wr (of_store f)
-    open_explains show after er gr wr before now bad why stores.ReadFault h = absurd h
-    open_explains show after er gr wr before now bad why stores.DiskFault h = (good_file, h)
-    open_explains show after er gr wr before now bad why (stores.InputFault file line kind) h = absurd h
-    open_explains show after er gr wr before now bad why (stores.OtherInput file place) h = absurd h
-    open_explains show after er gr wr before now bad why (stores.BadStore f p k) h = (good_file, λ tells. opening (why f p k h tells))
-    open_explains show after er gr wr before now bad why stores.NoMemory h = tt
+    pub open_explains : (T : Type 0) (show : Option (List ℕ)) (after : Contents) (er gr wr : Type 0) (before now : ℕ) (bad : ℕ → ℕ → FormKind → Type 0) → ((f p : ℕ) (k : FormKind) → bad f p k → IsTrue x.tells → IsBadStore x.before f p k) → (f : StoreFault) → HasDiskCause {T = T} before now bad (Err f) → RunExplains x edges grammar show after er gr (DiskRose before now) wr (of_store f)
+    open_explains T show after er gr wr before now bad why stores.ReadFault h = absurd h
+    open_explains T show after er gr wr before now bad why stores.DiskFault h = (good_file, h)
+    open_explains T show after er gr wr before now bad why (stores.InputFault file line kind) h = absurd h
+    open_explains T show after er gr wr before now bad why (stores.OtherInput file place) h = absurd h
+    open_explains T show after er gr wr before now bad why (stores.BadStore f p k) h = (good_file, λ tells. opening (why f p k h tells))
+    open_explains T show after er gr wr before now bad why stores.NoMemory h = tt
 
     -- the closing is refused
-    pub close_explains : {T : Type 0} (show : Option (List ℕ)) (after : Contents) (er gr wr : Type 0) (before now : ℕ) (seen : Contents) (s : OpenStore) → (IsTrue x.tells → IsOpenedAs x edges grammar seen s) → (f : StoreFault) → HasDiskCause {T = T} before now (BlamesOnTheWay s x.tells seen) (Err f) → RunExplains x edges grammar show after er gr (DiskRose before now) wr (of_store f)
-    close_explains show after er gr wr before now seen s open stores.ReadFault h = absurd h
-    close_explains show after er gr wr before now seen s open stores.DiskFault h = (good_file, h)
-    close_explains show after er gr wr before now seen s open (stores.InputFault file line kind) h = absurd h
-    close_explains show after er gr wr before now seen s open (stores.OtherInput file place) h = absurd h
-    close_explains show after er gr wr before now seen s open (stores.BadStore f p k) h = (good_file, λ tells. closing seen s (open tells) (subst (λ (b : Bool). BlamesOnTheWay s b seen f p k) tells h))
-    close_explains show after er gr wr before now seen s open stores.NoMemory h = tt
+    pub close_explains : (T : Type 0) (show : Option (List ℕ)) (after : Contents) (er gr wr : Type 0) (before now : ℕ) (seen : Contents) (s : OpenStore) → (IsTrue x.tells → IsOpenedAs x edges grammar seen s) → (f : StoreFault) → HasDiskCause {T = T} before now (BlamesOnTheWay s x.tells seen) (Err f) → RunExplains x edges grammar show after er gr (DiskRose before now) wr (of_store f)
+    close_explains T show after er gr wr before now seen s begun stores.ReadFault h = absurd h
+    close_explains T show after er gr wr before now seen s begun stores.DiskFault h = (good_file, h)
+    close_explains T show after er gr wr before now seen s begun (stores.InputFault file line kind) h = absurd h
+    close_explains T show after er gr wr before now seen s begun (stores.OtherInput file place) h = absurd h
+    close_explains T show after er gr wr before now seen s begun (stores.BadStore f p k) h = (good_file, λ tells. closing seen s (begun tells) (subst (λ (b : Bool). BlamesOnTheWay s b seen f p k) tells h))
+    close_explains T show after er gr wr before now seen s begun stores.NoMemory h = tt
 
     -- the import is refused
     pub import_explains : (show : Option (List ℕ)) (after : Contents) (wr : Type 0) (greads greads' reads reads' calls calls' : ℕ) → (IsTrue x.tells → current_of x.before ≡ Ok Blank) → (f : StoreFault) → HasImportCause text (x.told edges) (IsTrue x.tells) reads reads' calls calls' f → RunExplains x edges grammar show after (Rose reads reads') (Rose greads greads') (DiskRose calls calls') wr (of_store f)
@@ -99,7 +100,7 @@ module _ (x : Given) (edges grammar : List ℕ) where
     import_explains show after wr greads greads' reads reads' calls calls' blank (stores.InputFault Grammar line kind) h = absurd h
     import_explains show after wr greads greads' reads reads' calls calls' blank (stores.InputFault Source line kind) h = absurd h
     import_explains show after wr greads greads' reads reads' calls calls' blank (stores.OtherInput file place) h = absurd h
-    import_explains show after wr greads greads' reads reads' calls calls' blank (stores.BadStore f p k) h = (good_file, λ tells. absurd (h.1.1.1 tells))
+    import_explains show after wr greads greads' reads reads' calls calls' blank (stores.BadStore f p k) h = (good_file, λ tells. absurd (h.3 tells))
     import_explains show after wr greads greads' reads reads' calls calls' blank stores.NoMemory h = tt
 
     -- the files are not the store's
@@ -118,10 +119,15 @@ module _ (x : Given) (edges grammar : List ℕ) where
       compare_explains show after er gr dr wr (stores.OtherInput Grammar place) h = λ tells.
           (slot, m, current tells, λ g told. (good_file g told, subst (λ (c : List ℕ). DiffersFirst g c place) (same_copy_2 tells) (h g told tells)))
       compare_explains show after er gr dr wr (stores.OtherInput Edges place) h = λ tells.
-          (slot, m, current tells, (λ g told. (good_file g told, h.0 g told tells ∙ same_copy_2 tells)), λ e told. subst (λ (c : List ℕ). DiffersFirst e c place) (same_copy_3 tells) (h.1 e told tells))
+          (slot, m, current tells, ((λ g told. (good_file g told, h.0 g told tells ∙ same_copy_2 tells)), λ e told. subst (λ (c : List ℕ). DiffersFirst e c place) (same_copy_3 tells) (h.1 e told tells)))
       compare_explains show after er gr dr wr (stores.OtherInput Source place) h = absurd h
       compare_explains show after er gr dr wr (stores.BadStore f p k) h = absurd h
       compare_explains show after er gr dr wr stores.NoMemory h = tt
+
+      -- and the comparison was handed on
+      pub compare_handed : (show : Option (List ℕ)) (after : Contents) (er gr dr dr' wr : Type 0) → (dr → dr') → (r : Result (Unit {0}) StoreFault) (e : StoreFault) → r ≡ Err e → IfErr r (CompareExplains (x.told grammar) (x.told edges) x.tells seen m gr er dr) → RunExplains x edges grammar show after er gr dr' wr (of_store e)
+      compare_handed show after er gr dr dr' wr more r e was h =
+          explains_later show after er gr dr wr er gr dr' wr (λ k. k) (λ k. k) more (λ k. k) (of_store e) (compare_explains show after er gr dr wr e (subst (λ (q : Result (Unit {0}) StoreFault). IfErr q (CompareExplains (x.told grammar) (x.told edges) x.tells seen m gr er dr)) was h))
 
   -- the printing ends
   pub good_of : Accepts x edges grammar → WhereTold (x.told grammar) IsGoodGrammar
@@ -129,16 +135,27 @@ module _ (x : Given) (edges grammar : List ℕ) where
   good_of (inr old) g told = (old.same_grammar g told).0
 
   pub show_explains : (show : Option (List ℕ)) (after : Contents) (er gr dr wr : Type 0) (s : OpenStore) → Accepts x edges grammar → IsDone s.manifest → (IsTrue x.tells → IsOpenedAs x edges grammar after s) → (IsTrue x.tells → current_of after ≡ Ok (At s.slot s.manifest)) → (status : Status) → ShowExplains s x.tells after show dr wr status → RunExplains x edges grammar show after er gr dr wr status
-  show_explains show after er gr dr wr s a done open current Done h = a
-  show_explains show after er gr dr wr s a done open current Words h = h
-  show_explains show after er gr dr wr s a done open current (InputFault file line kind) h = absurd h
-  show_explains show after er gr dr wr s a done open current (OtherInput file place) h = absurd h
-  show_explains show after er gr dr wr s a done open current ReadFault h = absurd h
-  show_explains show after er gr dr wr s a done open current DiskFault h = (good_of a, h)
-  show_explains show after er gr dr wr s a done open current WriteFault h = (a, h)
-  show_explains show after er gr dr wr s a done open current NoMemory h = tt
-  show_explains show after er gr dr wr s a done open current (BadStore f p k) h = (good_of a, λ tells. printing s (open tells) (rw ← tells h))
-  show_explains show after er gr dr wr s a done open current NoStore h = h
-  show_explains show after er gr dr wr s a done open current (Unfinished i j) h = h
-  show_explains show after er gr dr wr s a done open current NotKnown h =
-      (a, h.0, h.1.0, λ tells. record { slot = s.slot; manifest = s.manifest; current = current tells; done = done; none = h.1.1 })
+  show_explains show after er gr dr wr s a done begun current Done h = a
+  show_explains show after er gr dr wr s a done begun current Words h = h
+  show_explains show after er gr dr wr s a done begun current (InputFault file line kind) h = absurd h
+  show_explains show after er gr dr wr s a done begun current (OtherInput file place) h = absurd h
+  show_explains show after er gr dr wr s a done begun current ReadFault h = absurd h
+  show_explains show after er gr dr wr s a done begun current DiskFault h = (good_of a, h)
+  show_explains show after er gr dr wr s a done begun current WriteFault h = (a, h)
+  show_explains show after er gr dr wr s a done begun current NoMemory h = tt
+  show_explains show after er gr dr wr s a done begun current (BadStore f p k) h = (good_of a, λ tells. printing s (begun tells) (subst (λ (b : Bool). IsBlamed s b after 0 (length s.manifest.parts) f p k) tells h))
+  show_explains show after er gr dr wr s a done begun current NoStore h = h
+  show_explains show after er gr dr wr s a done begun current (Unfinished i j) h = h
+  show_explains show after er gr dr wr s a done begun current NotKnown h =
+      (a, (h.0, h.1, λ tells. record { slot = s.slot; manifest = s.manifest; current = current tells; done = done; none = h.2 }))
+
+-- what `?` hands on
+pub if_err : {U E : Type 0} (r : Result U E) (e : E) (P : E → Type 0) → IsErrAnd r (λ x. x ≡ e) → P e → IfErr r P
+if_err (Ok y) e P is p = tt
+if_err (Err y) e P is p = subst P (sym is) p
+
+-- what a later part of a call explains, which was told the same
+pub told_later : (x : Given) (told' : List ℕ → Option (List ℕ)) (edges grammar : List ℕ) (er gr dr er' gr' dr' : Type 0) → told' ≡ x.told → (er → er') → (gr → gr') → (dr → dr') → (s : Status) → ((show : Option (List ℕ)) (after : Contents) → RunExplains (record { told = told'; tells = x.tells; before = x.before }) edges grammar show after er gr dr ⊥ s) → (show : Option (List ℕ)) (after : Contents) → RunExplains x edges grammar show after er' gr' dr' ⊥ s
+told_later x told' edges grammar er gr dr er' gr' dr' same e g d s h show after =
+    explains_later x edges grammar show after er gr dr ⊥ er' gr' dr' ⊥ e g d (λ k. k) s
+    (subst (λ (t : List ℕ → Option (List ℕ)). RunExplains (record { told = t; tells = x.tells; before = x.before }) edges grammar show after er gr dr ⊥ s) same (h show after))

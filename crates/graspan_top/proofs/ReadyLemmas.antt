@@ -1,6 +1,6 @@
 -- The store with which a run begins, and the one at its end.
 use Rattle.std.proofs.Common.{◌≡◌, ◌≢◌, ◌⊎◌, inl, inr, ℕ, List, Option, Some, Ok, refl, sym, ap, subst, ◌∙◌, arith}
-use Rattle.std.specs.Prelude.{IsTrue, Bool}
+use Rattle.std.specs.Prelude.{IsTrue, Bool, Result, Err, IfOk}
 use Rattle.graph_words.specs.declared.types.Born.{Born}
 use Rattle.io_edge.specs.declared.kinds.InputFile.TheVariants.{Grammar, Edges}
 use Rattle.normal_law.specs.Closure.{Normal}
@@ -20,6 +20,7 @@ use Rattle.store_law.proofs.Exact.{exact_store}
 use Rattle.store_law.proofs.Keeping.{beside_slots, imported_store, stays_left}
 use Rattle.open_store.specs.Answers.{copy_of}
 use Rattle.open_store.specs.Opening.{IsOpened, IsOpenedAlone}
+use Rattle.open_store.specs.declared.fault.StoreFault.{StoreFault}
 use Rattle.open_store.specs.Store.{IsHeld, IsHeldAlone, OpenStore}
 use Rattle.store.specs.Import.{IsImportOf, IsNewStore, texts_of}
 use Rattle.closer.specs.Continuing.{Continues}
@@ -28,9 +29,6 @@ use Rattle.closer.proofs.LawLemmas.{rules_held, store_after}
 use Rattle.graspan_top.specs.Given.{Given, WhereTold}
 use Rattle.graspan_top.specs.Run.{Accepts, IsGoodGrammar, IsNew, IsOpenedAs, IsResumed}
 use Rattle.graspan_top.specs.Stages.{IsCopied, IsGrammarFile, IsReady}
-
-at-At : {a b : Found} → Ok a ≡ Ok b → a ≡ b
-at-At e = cc
 
 held_of : (s : OpenStore) (c : Contents) → IsHeldAlone s c → IsHeld s c
 held_of s c h = record { current = alone_law s.slot s.manifest c h.only; grammar = h.grammar }
@@ -63,6 +61,10 @@ module _ (x : Given) (edges grammar text : List ℕ) (file : IsGrammarFile (x.to
             };
       }
 
+  pub import_ready_ok : (limit : ℕ) (r : Result OpenStore StoreFault) → (IsTrue x.tells → current_of x.before ≡ Ok Blank) → IfOk r (IsNewStore text (x.told edges)) → IfOk r (λ s. (c : Contents) → images c → IsHeldAlone s c) → IfOk r (λ _. LeavesJust seen images) → (IsTrue x.tells → IfOk r (λ s. IsImportOf text (x.told edges) limit seen s.manifest)) → IfOk r (IsReady x edges grammar seen images)
+  import_ready_ok limit (Ok s) blank new held synced imported = import_ready limit s blank new held synced imported
+  import_ready_ok limit (Err e) blank new held synced imported = tt
+
   -- a store was found
   module _ (s : OpenStore) (mid : Contents) (stays : IsTrue x.tells → Stays x.before mid) (opened : IsTrue x.tells → IsHeld s mid) (same : IsTrue x.tells → seen ≡ mid) where
     copied : (f : ℕ) → f ≢ 0 → f ≢ 1 → IsTrue x.tells → mid f ≡ x.before f
@@ -82,6 +84,9 @@ module _ (x : Given) (edges grammar text : List ℕ) (file : IsGrammarFile (x.to
             let e : m ≡ s.manifest = cc in
             (parts, rw (same tells, ← e) st.rest)
 
+    pub found_current : IsTrue x.tells → current_of x.before ≡ Ok (At s.slot s.manifest)
+    found_current tells = sym (stays tells).same ∙ (opened tells).current
+
     pub found_ready : ((c : Contents) → images c → IsHeldAlone s c) → LeavesJust seen images → IsCopied (x.told grammar) x.tells (copy_of s.manifest Grammar mid) → IsCopied (x.told edges) x.tells (copy_of s.manifest Edges mid) → IsReady x edges grammar seen images s
     found_ready held synced is_grammar is_edges =
         record {
@@ -90,9 +95,9 @@ module _ (x : Given) (edges grammar text : List ℕ) (file : IsGrammarFile (x.to
               (record {
                 slot = s.slot;
                 manifest = s.manifest;
-                current = λ tells. sym (stays tells).same ∙ (opened tells).current;
-                same_grammar = λ g tg. (good_file g tg, λ tells. let c = copied 2 (omega arith) (omega arith) tells in rw ← c (is_grammar g tg tells));
-                same_edges = λ e te tells. let c = copied 3 (omega arith) (omega arith) tells in rw ← c (is_edges e te tells);
+                current = found_current;
+                same_grammar = λ g tg. (good_file g tg, λ tells. let c = copied 2 (omega arith) (omega arith) tells in rw (← c) (is_grammar g tg tells));
+                same_edges = λ e te tells. let c = copied 3 (omega arith) (omega arith) tells in rw (← c) (is_edges e te tells);
               });
           held = held;
           synced = synced;
@@ -115,7 +120,7 @@ module _ (x : Given) (edges grammar : List ℕ) (seen : Contents) (images : Cont
       further tells t (parts, st) =
           let on = closed.continues tells in
           let same : s.rules ≡ rules t = rules_held t s seen st.texts (ready.opened tells).held.grammar in
-          let steps : Continues (normal t) on.0 seen s.manifest now last.manifest = rw ← same on.1 in
+          let steps : Continues (normal t) on.0 seen s.manifest now last.manifest = rw (← same) on.1 in
           let after = store_after t seen now on.0 s.manifest last.manifest parts st steps in
           (after.0, after.1)
 
