@@ -1,6 +1,6 @@
 -- Why a run answers as it does, from what its steps say.
 use Rattle.std.proofs.Common.{◌≡◌, ◌⊎◌, inl, inr, ℕ, ◌≤◌, List, length, Option, Some, Ok, Err, refl, sym, ap, subst, ◌∙◌, arith}
-use Rattle.std.specs.Prelude.{IsTrue, Bool, Result, IfErr, IsErrAnd}
+use Rattle.std.specs.Prelude.{IsTrue, Bool, Result, IfErr, IsErrAnd, OnOk}
 use Rattle.io_edge.specs.Devices.{Rose}
 use Rattle.io_edge.specs.declared.kinds.InputFile.TheVariants.{Grammar, Edges, Source}
 use Rattle.edge_text.specs.EdgesText.{edges_fault}
@@ -23,6 +23,7 @@ use Rattle.closer.specs.Answers.{BlamesOnTheWay}
 use Rattle.query_text.specs.Answered.{IsBlamed}
 use Rattle.graspan_top.specs.Faults.{of_store}
 use Rattle.graspan_top.specs.Given.{Given, WhereTold}
+use Rattle.graspan_top.specs.Printing.{status_of}
 use Rattle.graspan_top.specs.Run.{Accepts, Blames, DiffersIn, IsGoodGrammar, IsOpenedAs, IsUnknown, RunExplains, opening, closing, printing}
 use Rattle.graspan_top.specs.Stages.{CompareExplains, DiffersFrom, IsCopied, IsGrammarFile, RefusesGrammar, ShowExplains}
 use Rattle.graspan_top.specs.declared.status.Status.{Status}
@@ -82,15 +83,6 @@ module _ (x : Given) (edges grammar : List ℕ) where
     open_explains T show after er gr wr before now bad why (stores.BadStore f p k) h = (good_file, λ tells. opening (why f p k h tells))
     open_explains T show after er gr wr before now bad why stores.NoMemory h = tt
 
-    -- the closing is refused
-    pub close_explains : (T : Type 0) (show : Option (List ℕ)) (after : Contents) (er gr wr : Type 0) (before now : ℕ) (seen : Contents) (s : OpenStore) → (IsTrue x.tells → IsOpenedAs x edges grammar seen s) → (f : StoreFault) → HasDiskCause {T = T} before now (BlamesOnTheWay s x.tells seen) (Err f) → RunExplains x edges grammar show after er gr (DiskRose before now) wr (of_store f)
-    close_explains T show after er gr wr before now seen s begun stores.ReadFault h = absurd h
-    close_explains T show after er gr wr before now seen s begun stores.DiskFault h = (good_file, h)
-    close_explains T show after er gr wr before now seen s begun (stores.InputFault file line kind) h = absurd h
-    close_explains T show after er gr wr before now seen s begun (stores.OtherInput file place) h = absurd h
-    close_explains T show after er gr wr before now seen s begun (stores.BadStore f p k) h = (good_file, λ tells. closing seen s (begun tells) (subst (λ (b : Bool). BlamesOnTheWay s b seen f p k) tells h))
-    close_explains T show after er gr wr before now seen s begun stores.NoMemory h = tt
-
     -- the import is refused
     pub import_explains : (show : Option (List ℕ)) (after : Contents) (wr : Type 0) (greads greads' reads reads' calls calls' : ℕ) → (IsTrue x.tells → current_of x.before ≡ Ok Blank) → (f : StoreFault) → HasImportCause text (x.told edges) (IsTrue x.tells) reads reads' calls calls' f → RunExplains x edges grammar show after (Rose reads reads') (Rose greads greads') (DiskRose calls calls') wr (of_store f)
     import_explains show after wr greads greads' reads reads' calls calls' blank stores.ReadFault h = inr (good_file, h)
@@ -134,6 +126,19 @@ module _ (x : Given) (edges grammar : List ℕ) where
   good_of (inl new) g told = (new.good g told).0
   good_of (inr old) g told = (old.same_grammar g told).0
 
+  -- the closing is refused
+  close_explains : (T : Type 0) → Accepts x edges grammar → (show : Option (List ℕ)) (after : Contents) (er gr wr : Type 0) (before now : ℕ) (seen : Contents) (s : OpenStore) → (IsTrue x.tells → IsOpenedAs x edges grammar seen s) → (f : StoreFault) → HasDiskCause {T = T} before now (BlamesOnTheWay s x.tells seen) (Err f) → RunExplains x edges grammar show after er gr (DiskRose before now) wr (of_store f)
+  close_explains T a show after er gr wr before now seen s begun stores.ReadFault h = absurd h
+  close_explains T a show after er gr wr before now seen s begun stores.DiskFault h = (good_of a, h)
+  close_explains T a show after er gr wr before now seen s begun (stores.InputFault file line kind) h = absurd h
+  close_explains T a show after er gr wr before now seen s begun (stores.OtherInput file place) h = absurd h
+  close_explains T a show after er gr wr before now seen s begun (stores.BadStore f p k) h = (good_of a, λ tells. closing seen s (begun tells) (subst (λ (b : Bool). BlamesOnTheWay s b seen f p k) tells h))
+  close_explains T a show after er gr wr before now seen s begun stores.NoMemory h = tt
+
+  pub close_handed : (T : Type 0) → Accepts x edges grammar → (show : Option (List ℕ)) (after : Contents) (er gr dr' wr : Type 0) (before now : ℕ) (seen : Contents) (s : OpenStore) → (IsTrue x.tells → IsOpenedAs x edges grammar seen s) → (DiskRose before now → dr') → (r : Result T StoreFault) (f : StoreFault) → r ≡ Err f → HasDiskCause before now (BlamesOnTheWay s x.tells seen) r → RunExplains x edges grammar show after er gr dr' wr (of_store f)
+  close_handed T a show after er gr dr' wr before now seen s begun more r f was h =
+      explains_later show after er gr (DiskRose before now) wr er gr dr' wr (λ k. k) (λ k. k) more (λ k. k) (of_store f) (close_explains T a show after er gr wr before now seen s begun f (subst (HasDiskCause before now (BlamesOnTheWay s x.tells seen)) was h))
+
   pub show_explains : (show : Option (List ℕ)) (after : Contents) (er gr dr wr : Type 0) (s : OpenStore) → Accepts x edges grammar → IsDone s.manifest → (IsTrue x.tells → IsOpenedAs x edges grammar after s) → (IsTrue x.tells → current_of after ≡ Ok (At s.slot s.manifest)) → (status : Status) → ShowExplains s x.tells after show dr wr status → RunExplains x edges grammar show after er gr dr wr status
   show_explains show after er gr dr wr s a done begun current Done h = a
   show_explains show after er gr dr wr s a done begun current Words h = h
@@ -148,6 +153,23 @@ module _ (x : Given) (edges grammar : List ℕ) where
   show_explains show after er gr dr wr s a done begun current (Unfinished i j) h = h
   show_explains show after er gr dr wr s a done begun current NotKnown h =
       (a, (h.0, h.1, λ tells. record { slot = s.slot; manifest = s.manifest; current = current tells; done = done; none = h.2 }))
+
+-- no fault of a store is Done
+pub not_done : (f : StoreFault) → of_store f ≡ Done → ⊥
+not_done stores.ReadFault e = absurd (cc)
+not_done stores.DiskFault e = absurd (cc)
+not_done (stores.InputFault file line kind) e = absurd (cc)
+not_done (stores.OtherInput file place) e = absurd (cc)
+not_done (stores.BadStore f p k) e = absurd (cc)
+not_done stores.NoMemory e = absurd (cc)
+
+pub on_status : {U : Type 0} (r : Result U Status) (e : Status) (P : Status → Type 0) → IsErrAnd r (λ x. x ≡ e) → P e → P (status_of r)
+on_status (Ok y) e P is p = absurd is
+on_status (Err y) e P is p = subst P (sym is) p
+
+pub on_ok : {U E : Type 0} (r : Result U E) (P : Type 0) → P → OnOk r P
+on_ok (Ok y) P p = p
+on_ok (Err y) P p = tt
 
 -- what `?` hands on
 pub if_err : {U E : Type 0} (r : Result U E) (e : E) (P : E → Type 0) → IsErrAnd r (λ x. x ≡ e) → P e → IfErr r P

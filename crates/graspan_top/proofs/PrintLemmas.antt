@@ -10,17 +10,17 @@ module _ (known : Bool) (IsText : List ℕ → Type 0) where
   -- what was printed first, and then how it ends
   pub prints : (old mid new : Option (List ℕ)) (rose : Type 0) (s : Status) → PrintsFirst known IsText old mid s → Ends mid new rose s → Prints known IsText old new rose s
   prints old mid new rose Done first same = rw same first
-  prints old mid new rose Words first line = rw ← first line
-  prints old mid new rose (InputFault file number kind) first line = rw ← first line
-  prints old mid new rose (OtherInput file place) first line = rw ← first line
-  prints old mid new rose ReadFault first line = rw ← first line
+  prints old mid new rose Words first line = rw (← first) line
+  prints old mid new rose (InputFault file number kind) first line = rw (← first) line
+  prints old mid new rose (OtherInput file place) first line = rw (← first) line
+  prints old mid new rose ReadFault first line = rw (← first) line
   prints old mid new rose DiskFault first line = (mid, first, line)
   prints old mid new rose WriteFault first same = rw same first
   prints old mid new rose NoMemory first line = (mid, first, line)
   prints old mid new rose (BadStore file place kind) first line = (mid, first, line)
-  prints old mid new rose NoStore first line = rw ← first line
-  prints old mid new rose (Unfinished i j) first line = rw ← first line
-  prints old mid new rose NotKnown first line = rw ← first line
+  prints old mid new rose NoStore first line = rw (← first) line
+  prints old mid new rose (Unfinished i j) first line = rw (← first) line
+  prints old mid new rose NotKnown first line = rw (← first) line
 
   -- nothing was printed yet
   pub nothing_first : (old : Option (List ℕ)) (s : Status) → (s ≡ Done → ⊥) → PrintsFirst known IsText old old s

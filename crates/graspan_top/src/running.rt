@@ -1,5 +1,5 @@
 //! The command `run`: imports or resumes, closes and prints.
-ghost use Rattle.std.specs.Prelude.{◌≡◌, ◌≤◌, ◌++◌, ℕ, List, Option, Some, IsTrue, IfErr, IfOk, OnOk, length, option_map};
+ghost use Rattle.std.specs.Prelude.{◌≡◌, ◌≢◌, ◌≤◌, ◌++◌, ℕ, List, Option, Some, IsTrue, IfErr, IfOk, OnOk, length, option_map};
 ghost use Rattle.graph_words.specs.declared.types.Born.{Born as ABorn};
 ghost use Rattle.io_edge.specs.Devices.{Rose, Takes};
 ghost use Rattle.closing_machine.specs.Parts.{all_edges};
@@ -11,6 +11,7 @@ ghost use Rattle.open_store.specs.Store.{IsHeld};
 ghost use Rattle.store.specs.Import.{texts_of};
 ghost use Rattle.query_text.specs.Text.{head_text, tally_text};
 ghost use Rattle.query_text.specs.Answered.{AreListedIn, HasAnswerCause, IsBlamed};
+ghost use Rattle.graspan_top.specs.declared.status.Status.TheVariants.{Done};
 ghost use Rattle.graspan_top.specs.Given.{Given as AGiven};
 ghost use Rattle.graspan_top.specs.Printing.{PrintsFirst, status_of};
 ghost use Rattle.graspan_top.specs.Run.{IsRunText, RunExplains, done_line};
@@ -105,6 +106,7 @@ fn closed_store<I: Inputs, D: Disk>(
     ensures done { IfOk result (λ s. IsDone s.manifest) }
     ensures cause { IfErr result (λ fault. (show : Option (List ℕ)) (after : Contents) → RunExplains (record { told = I.told inputs.old; tells = D.tells; before = D.seen disk.old }) files.now.edges.now files.now.grammar.now show after
         (Rose (I.faults inputs.old files.now.edges.now) (I.faults inputs.new files.now.edges.now)) (Rose (I.faults inputs.old files.now.grammar.now) (I.faults inputs.new files.now.grammar.now)) (DiskRose (D.faults disk.old) (D.faults disk.new)) ⊥ fault) }
+    ensures fails { IfErr result (λ fault. fault ≢ Done) }
     ensures kept { I.told inputs.new ≡ I.told inputs.old }
     ensures others { (other : List ℕ) → I.faults inputs.old other ≤ I.faults inputs.new other }
     ensures later { D.faults disk.old ≤ D.faults disk.new }

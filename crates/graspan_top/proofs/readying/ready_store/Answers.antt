@@ -3,7 +3,7 @@ use Rattle.disk_model.specs.Disk.{Rose as DiskRose}
 use Rattle.io_edge.specs.Devices.{Rose}
 use Rattle.graspan_top.specs.Faults.{of_store}
 use Rattle.graspan_top.specs.Given.{Given}
-use Rattle.graspan_top.proofs.ExplainLemmas.{if_err, rose_later, told_later}
+use Rattle.graspan_top.proofs.ExplainLemmas.{if_err, not_done, rose_later, told_later}
 use Rattle.graspan_top.proofs.readying.ready_store.Goals as goal
 
 pub returns-in_err-found_or_made-clause-cause : goal.returns-in_err-found_or_made-clause-cause
@@ -25,3 +25,6 @@ returns-in_err-found_or_made-clause-cause g c =
     (rose_later (I.faults c.args.inputs.now grammar) (I.faults was grammar) (I.faults now grammar) (I.faults now grammar) (others grammar) (omega arith))
     (λ h. h) (of_store c.in_err-found_or_made.field-0.0)
     c.in_err-found_or_made.ensures.cause)
+
+pub returns-in_err-found_or_made-clause-fails : goal.returns-in_err-found_or_made-clause-fails
+returns-in_err-found_or_made-clause-fails g c = if_err c.from_residual-in_err-found_or_made.result (of_store c.in_err-found_or_made.field-0.0) _ c.from_residual-in_err-found_or_made.ensures.1 (not_done c.in_err-found_or_made.field-0.0)
