@@ -3,3 +3,4 @@ pub mod ExplainLemmas
 pub mod ReadyLemmas
 pub mod PrintLemmas
 pub mod LookLemmas
+pub mod TextLemmas

@@ -1,24 +1,28 @@
-use Rattle.std.proofs.Common.{rules, ◌≡◌, ◌≤◌, ◌<◌, ◌++◌, ℕ, List, Option, Some, IsTrue, IfErr, IfOk, IfSome, OnOk, OnErr, length, slice_get, ◌+◌, ◌-◌, ◌*◌, ◌/◌, ◌%◌, Bool, true, false, nat_eq, nat_lt, [], ◌∷◌, slice_index_or, slice_set, bit_and, bit_or, w8, w32, w64, Bor, MutBor}
-use Rattle.io_edge.specs.Devices.{Rose, Takes}
-use Rattle.disk_model.specs.Disk.{Contents}
-use Rattle.disk_model.specs.Disk.{Rose as DiskRose}
-use Rattle.graph_words.specs.declared.types.Born.{Born as ABorn}
-use Rattle.closing_machine.specs.Parts.{all_edges}
-use Rattle.manifest.specs.Spelling.{Fits}
-use Rattle.manifest_switch.specs.Looks.{OnlyLooks}
-use Rattle.store_law.specs.Left.{IsDone}
-use Rattle.open_store.specs.Store.{IsHeld}
-use Rattle.query_text.specs.Text.{answers_in, answers_text}
-use Rattle.query_text.specs.Answered.{HasAnswerCause, IsBlamed, IsPrinted, first_asked, wanted}
-use Rattle.graspan_top.specs.Given.{Given as AGiven}
-use Rattle.graspan_top.specs.declared.status.Status.TheVariants.{NotKnown, Unfinished}
-use Rattle.graspan_top.specs.Looking.{AreVerticesOf, DumpExplains, IsDumpText, IsPartsText, IsQueryText, IsUnfinished, PartsExplains, QueryExplains}
-use Rattle.graspan_top.specs.Looking.{count_line as the_count_line}
-use Rattle.graspan_top.specs.Looking.{none_undone}
-use Rattle.graspan_top.specs.Printing.{PrintsFirst, status_of}
-use Rattle.graspan_top.specs.Stages.{FindExplains}
+use Rattle.std.proofs.Common.{◌≡◌, ◌∙◌, ℕ, Option, List, sym, subst}
+use Rattle.std.specs.Io.KnownBytes.{Appends}
+use Rattle.graspan_top.proofs.TextLemmas.{query_stopped, query_unwritten, query_written}
 use Rattle.graspan_top.proofs.looking.print_query.Goals as goal
 
--- src/looking.rt:151:5
+pub returns-in_err-count-clause-printed : goal.returns-in_err-count-clause-printed
+returns-in_err-count-clause-printed g c =
+    let D = g.D.Disk in
+    let told = g.O.Sink.told in
+    let a = c.args in
+    let taken = c.in_err-count.ensures.printed in
+    (taken.0, query_stopped a.store.now D.tells a.label a.ends.from a.ends.to (D.seen a.disk.now) c.in_err-count.field-0.0 (told a.out.now) (told c.answers.new.sink) taken.0 c.from_residual.result c.from_residual.ensures.1 taken.1)
+
 pub returns-in_err-write-clause-printed : goal.returns-in_err-write-clause-printed
-returns-in_err-write-clause-printed g c = ?
+returns-in_err-write-clause-printed g c =
+    let D = g.D.Disk in
+    let told = g.O.Sink.told in
+    let a = c.args in
+    let taken = c.in_ok-count.ensures.printed in
+    (taken.0, query_unwritten a.store.now D.tells a.label a.ends.from a.ends.to (D.seen a.disk.now) c.in_ok-count.count (told a.out.now) (told c.answers.new.sink) (told c.write.new.self) c.as_slice.result.now taken.0 taken.1 taken.2 (c.as_slice.ensures.value ∙ c.count_line.ensures) c.from_residual-in_err-write.result c.from_residual-in_err-write.ensures.1 c.in_err-write.ensures.taken)
+
+pub returns-clause-printed : goal.returns-clause-printed
+returns-clause-printed g c =
+    let D = g.D.Disk in
+    let told = g.O.Sink.told in
+    let a = c.args in
+    let taken = c.in_ok-count.ensures.printed in
+    (taken.0, query_written a.store.now D.tells a.label a.ends.from a.ends.to (D.seen a.disk.now) c.in_ok-count.count (told a.out.now) (told c.answers.new.sink) (told c.write.new.self) c.as_slice.result.now taken.0 taken.1 taken.2 (c.as_slice.ensures.value ∙ c.count_line.ensures) c.in_ok-write.ensures.taken)

@@ -1,52 +1,81 @@
-use Rattle.std.proofs.Common.{rules, ◌≡◌, ◌≤◌, ◌<◌, ◌++◌, ℕ, List, Option, Some, IsTrue, IfErr, IfOk, IfSome, OnOk, OnErr, length, slice_get, ◌+◌, ◌-◌, ◌*◌, ◌/◌, ◌%◌, Bool, true, false, nat_eq, nat_lt, [], ◌∷◌, slice_index_or, slice_set, bit_and, bit_or, w8, w32, w64, Bor, MutBor}
-use Rattle.io_edge.specs.Devices.{Rose, Takes}
-use Rattle.disk_model.specs.Disk.{Contents}
+use Rattle.std.proofs.Common.{◌≡◌, ℕ, Option, List, Some, inl, sym, subst}
+use Rattle.std.specs.Prelude.{Contains, slice_get}
 use Rattle.disk_model.specs.Disk.{Rose as DiskRose}
-use Rattle.graph_words.specs.declared.types.Born.{Born as ABorn}
-use Rattle.closing_machine.specs.Parts.{all_edges}
-use Rattle.manifest.specs.Spelling.{Fits}
-use Rattle.manifest_switch.specs.Looks.{OnlyLooks}
-use Rattle.store_law.specs.Left.{IsDone}
-use Rattle.open_store.specs.Store.{IsHeld}
-use Rattle.query_text.specs.Text.{answers_in, answers_text}
-use Rattle.query_text.specs.Answered.{HasAnswerCause, IsBlamed, IsPrinted, first_asked, wanted}
-use Rattle.graspan_top.specs.Given.{Given as AGiven}
-use Rattle.graspan_top.specs.declared.status.Status.TheVariants.{NotKnown, Unfinished}
-use Rattle.graspan_top.specs.Looking.{AreVerticesOf, DumpExplains, IsDumpText, IsPartsText, IsQueryText, IsUnfinished, PartsExplains, QueryExplains}
-use Rattle.graspan_top.specs.Looking.{count_line as the_count_line}
-use Rattle.graspan_top.specs.Looking.{none_undone}
-use Rattle.graspan_top.specs.Printing.{PrintsFirst, status_of}
-use Rattle.graspan_top.specs.Stages.{FindExplains}
+use Rattle.io_edge.specs.Devices.{Rose}
+use Rattle.manifest.specs.declared.types.Manifest.{Manifest}
+use Rattle.open_store.proofs.Looking.{looks_then}
+use Rattle.graspan_top.specs.Looking.{AreVerticesOf, IsKnownIn, IsQueryText, IsUnfinished, IsUnknownIn, wants_one}
+use Rattle.graspan_top.proofs.LookLemmas.{found_refused, has_label, printing_refused, unknown_refused}
+use Rattle.graspan_top.proofs.TextLemmas.{printed_short, query_short, query_whole}
 use Rattle.graspan_top.proofs.looking.query.Goals as goal
 
--- src/looking.rt:169:17
 pub returns-in_err-store-clause-explained : goal.returns-in_err-store-clause-explained
-returns-in_err-store-clause-explained g c = ?
+returns-in_err-store-clause-explained g c = λ told.
+    let D = g.D.Disk in
+    let O = g.O.Sink in
+    let a = c.args in
+    let x = record { told = told; tells = D.tells; before = D.seen a.disk.now } in
+    found_refused x (wants_one a.ends.from) (IsKnownIn a.label.now a.ends.from a.ends.to) IsUnfinished (IsUnknownIn a.label.now a.ends.from a.ends.to) (DiskRose (D.faults a.disk.now) (D.faults c.finished_store.new.disk)) (Rose (O.faults a.out.now) (O.faults a.out.now)) c.from_residual.result c.in_err-store.field-0.0 c.from_residual.ensures.1 c.in_err-store.ensures.cause
 
--- src/looking.rt:170:18
 pub returns-in_err-number-clause-explained : goal.returns-in_err-number-clause-explained
-returns-in_err-number-clause-explained g c = ?
+returns-in_err-number-clause-explained g c = λ told.
+    let D = g.D.Disk in
+    let O = g.O.Sink in
+    let a = c.args in
+    let x = record { told = told; tells = D.tells; before = D.seen a.disk.now } in
+    let found = c.in_ok-store.ensures in
+    let none = subst (λ (m : Manifest). Contains m.labels a.label.now → ⊥) c.manifest.ensures.manifest c.in_err-number.ensures.none.1 in
+    unknown_refused x (wants_one a.ends.from) (IsKnownIn a.label.now a.ends.from a.ends.to) IsUnfinished (IsUnknownIn a.label.now a.ends.from a.ends.to) (DiskRose (D.faults a.disk.now) (D.faults c.finished_store.new.disk)) (Rose (O.faults a.out.now) (O.faults a.out.now)) c.from_residual-in_err-number.result c.in_err-number.field-0.0 c.in_ok-store.store found.held c.from_residual-in_err-number.ensures.1 c.in_err-number.ensures.none.0 (record { done = found.done; lacks = inl none })
 
--- src/looking.rt:172:8
 pub returns-in_err-print_query-clause-explained : goal.returns-in_err-print_query-clause-explained
-returns-in_err-print_query-clause-explained g c = ?
+returns-in_err-print_query-clause-explained g c = λ told.
+    let D = g.D.Disk in
+    let O = g.O.Sink in
+    let a = c.args in
+    let x = record { told = told; tells = D.tells; before = D.seen a.disk.now } in
+    let found = c.in_ok-store.ensures in
+    let number_is = subst (λ (m : Manifest). slice_get m.labels c.in_ok-number.number.0 ≡ Some a.label.now) c.manifest.ensures.manifest c.in_ok-number.ensures.number in
+    let vertices = subst (λ (m : Manifest). AreVerticesOf m a.ends.from a.ends.to) c.manifest-2.ensures.manifest c.in_ok-known.ensures.known in
+    let known = record { done = found.done; has_label = has_label c.in_ok-store.store.manifest.labels a.label.now c.in_ok-number.number.0 number_is; vertices = vertices } in
+    printing_refused x (wants_one a.ends.from) (IsKnownIn a.label.now a.ends.from a.ends.to) IsUnfinished (IsUnknownIn a.label.now a.ends.from a.ends.to) c.in_ok-store.store found.held known {U = Unit {0}} (O.faults a.out.now) (O.faults c.print_query.new.out) (D.faults a.disk.now) (D.faults c.finished_store.new.disk) (D.faults c.print_query.new.disk) (D.seen c.finished_store.new.disk) c.in_err-print_query.field-0.0 c.from_residual-in_err-print_query.result c.from_residual-in_err-print_query.ensures.1 found.later found.looks.same_seen c.in_err-print_query.ensures.cause
 
--- src/looking.rt:172:8
 pub returns-in_err-print_query-clause-printed : goal.returns-in_err-print_query-clause-printed
-returns-in_err-print_query-clause-printed g c = ?
+returns-in_err-print_query-clause-printed g c =
+    let D = g.D.Disk in
+    let told = g.O.Sink.told in
+    let a = c.args in
+    let found = c.in_ok-store.ensures in
+    let seen = D.seen a.disk.now in
+    let taken = c.in_err-print_query.ensures.printed in
+    let number_is = subst (λ (m : Manifest). slice_get m.labels c.in_ok-number.number.0 ≡ Some a.label.now) c.manifest.ensures.manifest c.in_ok-number.ensures.number in
+    printed_short D.tells (IsQueryText seen a.label.now a.ends.from a.ends.to) (told a.out.now) (told c.print_query.new.out) c.in_err-print_query.field-0.0 c.from_residual-in_err-print_query.result c.from_residual-in_err-print_query.ensures.1
+    (query_short c.in_ok-store.store D.tells c.in_ok-number.number a.ends.from a.ends.to c.manifest.ensures.store seen (D.seen c.finished_store.new.disk) found.looks.same_seen found.held a.label.now number_is (told a.out.now) (told c.print_query.new.out) taken.0 c.in_err-print_query.field-0.0 taken.1)
 
--- src/looking.rt:172:8
 pub returns-in_err-print_query-clause-looks : goal.returns-in_err-print_query-clause-looks
-returns-in_err-print_query-clause-looks g c = ?
+returns-in_err-print_query-clause-looks g c =
+    let D = g.D.Disk in
+    looks_then D.seen D.may_leave D.moment D.left_since c.args.disk.now c.finished_store.new.disk c.print_query.new.disk c.in_ok-store.ensures.looks c.in_err-print_query.ensures.looks
 
--- src/looking.rt:156:1
 pub returns-clause-explained : goal.returns-clause-explained
-returns-clause-explained g c = ?
+returns-clause-explained g c = λ told t.
+    let a = c.args in
+    let s = c.in_ok-store.store in
+    let found = c.in_ok-store.ensures in
+    let number_is = subst (λ (m : Manifest). slice_get m.labels c.in_ok-number.number.0 ≡ Some a.label.now) c.manifest.ensures.manifest c.in_ok-number.ensures.number in
+    let vertices = subst (λ (m : Manifest). AreVerticesOf m a.ends.from a.ends.to) c.manifest-2.ensures.manifest c.in_ok-known.ensures.known in
+    (s.manifest, (s.slot, (found.held t).current), record { done = found.done; has_label = has_label s.manifest.labels a.label.now c.in_ok-number.number.0 number_is; vertices = vertices })
 
--- src/looking.rt:156:1
 pub returns-clause-printed : goal.returns-clause-printed
-returns-clause-printed g c = ?
+returns-clause-printed g c =
+    let D = g.D.Disk in
+    let told = g.O.Sink.told in
+    let a = c.args in
+    let found = c.in_ok-store.ensures in
+    let taken = c.in_ok-print_query.ensures.printed in
+    let number_is = subst (λ (m : Manifest). slice_get m.labels c.in_ok-number.number.0 ≡ Some a.label.now) c.manifest.ensures.manifest c.in_ok-number.ensures.number in
+    query_whole c.in_ok-store.store D.tells c.in_ok-number.number a.ends.from a.ends.to c.manifest.ensures.store (D.seen a.disk.now) (D.seen c.finished_store.new.disk) found.looks.same_seen found.held a.label.now number_is (told a.out.now) (told c.print_query.new.out) taken.0 found.done taken.1
 
--- src/looking.rt:156:1
 pub returns-clause-looks : goal.returns-clause-looks
-returns-clause-looks g c = ?
+returns-clause-looks g c =
+    let D = g.D.Disk in
+    looks_then D.seen D.may_leave D.moment D.left_since c.args.disk.now c.finished_store.new.disk c.print_query.new.disk c.in_ok-store.ensures.looks c.in_ok-print_query.ensures.looks
