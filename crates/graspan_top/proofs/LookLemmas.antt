@@ -54,7 +54,7 @@ module _ (names : List (List ℕ)) (label : List ℕ) where
   pub has_label : (k : ℕ) → slice_get names k ≡ Some label → Contains names label
   has_label k is = subst (λ (x : List ℕ). Contains names x) (get_or_from_slice_get names k label [] is) (Contains-get_or names k [] (slice_get_within names k label is))
 
-labelled : ℕ → LabelId
+abbrev labelled : ℕ → LabelId
 labelled k = record { 0 = k }
 
 same_answers : (names : List (List ℕ)) (label : List ℕ) (l k : LabelId) (edges : List Born) (text : List ℕ) → IsTable names → slice_get names l.0 ≡ Some label → slice_get names k.0 ≡ Some label → text ≡ answers_text k None None edges → text ≡ answers_text l None None edges
@@ -74,13 +74,13 @@ status_at P (Ok x) s is h = absurd is
 status_at P (Err y) s is h = subst P (sym is) h
 
 -- opening is refused
-pub open_refused : {T : Type 0} (tells : Bool) (c : Contents) (Undone : Manifest → ℕ → ℕ → Type 0) (before now : ℕ) (bad : ℕ → ℕ → FormKind → Type 0) → ((f p : ℕ) (k : FormKind) → bad f p k → IsTrue tells → IsBadStore c f p k) → (f : StoreFault) → HasDiskCause {T = T} before now bad (Err f) → FindExplains tells c Undone (DiskRose before now) (of_store f)
-open_refused tells c Undone before now bad why stores.ReadFault h = absurd h
-open_refused tells c Undone before now bad why stores.DiskFault h = h
-open_refused tells c Undone before now bad why (stores.InputFault file line kind) h = absurd h
-open_refused tells c Undone before now bad why (stores.OtherInput file place) h = absurd h
-open_refused tells c Undone before now bad why (stores.BadStore f p k) h = why f p k h
-open_refused tells c Undone before now bad why stores.NoMemory h = tt
+pub open_refused : (T : Type 0) (tells : Bool) (c : Contents) (Undone : Manifest → ℕ → ℕ → Type 0) (before now : ℕ) (bad : ℕ → ℕ → FormKind → Type 0) → ((f p : ℕ) (k : FormKind) → bad f p k → IsTrue tells → IsBadStore c f p k) → (f : StoreFault) → HasDiskCause {T = T} before now bad (Err f) → FindExplains tells c Undone (DiskRose before now) (of_store f)
+open_refused T tells c Undone before now bad why stores.ReadFault h = absurd h
+open_refused T tells c Undone before now bad why stores.DiskFault h = h
+open_refused T tells c Undone before now bad why (stores.InputFault file line kind) h = absurd h
+open_refused T tells c Undone before now bad why (stores.OtherInput file place) h = absurd h
+open_refused T tells c Undone before now bad why (stores.BadStore f p k) h = why f p k h
+open_refused T tells c Undone before now bad why stores.NoMemory h = tt
 
 -- a fault of finding is one of the whole, with more that may be asked
 pub find_more : (tells : Bool) (c : Contents) (Undone More : Manifest → ℕ → ℕ → Type 0) (rose : Type 0) → ((m : Manifest) (i j : ℕ) → Undone m i j → More m i j) → (s : Status) → FindExplains tells c Undone rose s → FindExplains tells c More rose s
@@ -145,25 +145,25 @@ module _ (x : Given) (w : Wants) (Ready : Manifest → Type 0) (Undone : Manifes
     pub current_ready : IsTrue x.tells → (m : Manifest) × HasCurrent x.before m × Ready m
     current_ready tells = (s.manifest, (s.slot, (held tells).current), ready)
 
-    pub print_explains : {T : Type 0} (writes writes' before now : ℕ) (f : AnswerFault) → HasAnswerCause {T = T} writes writes' before now (IsBlamed s x.tells x.before (w.first s) (w.number s)) (Err f) → LookExplains x w Ready Undone Unknown (DiskRose before now) (Rose writes writes') (of_answer f)
-    print_explains writes writes' before now answers.DiskFault h = h
-    print_explains writes writes' before now (answers.BadStore f p k) h = λ tells. loading s (held tells) ready (subst (λ (b : Bool). IsBlamed s b x.before (w.first s) (w.number s) f p k) tells h)
-    print_explains writes writes' before now answers.WriteFault h = (h, current_ready)
-    print_explains writes writes' before now answers.NoMemory h = tt
+    pub print_explains : (T : Type 0) (writes writes' before now : ℕ) (f : AnswerFault) → HasAnswerCause {T = T} writes writes' before now (IsBlamed s x.tells x.before (w.first s) (w.number s)) (Err f) → LookExplains x w Ready Undone Unknown (DiskRose before now) (Rose writes writes') (of_answer f)
+    print_explains T writes writes' before now answers.DiskFault h = h
+    print_explains T writes writes' before now (answers.BadStore f p k) h = λ tells. loading s (held tells) ready (subst (λ (b : Bool). IsBlamed s b x.before (w.first s) (w.number s) f p k) tells h)
+    print_explains T writes writes' before now answers.WriteFault h = (h, current_ready)
+    print_explains T writes writes' before now answers.NoMemory h = tt
 
-    pub write_explains : {T : Type 0} (writes writes' : ℕ) (rose : Type 0) (f : AnswerFault) → HasWriteCause {T = T} writes writes' (Err f) → LookExplains x w Ready Undone Unknown rose (Rose writes writes') (of_answer f)
-    write_explains writes writes' rose answers.DiskFault h = absurd h
-    write_explains writes writes' rose (answers.BadStore f p k) h = absurd h
-    write_explains writes writes' rose answers.WriteFault h = (h, current_ready)
-    write_explains writes writes' rose answers.NoMemory h = absurd h
+    pub write_explains : (T : Type 0) (writes writes' : ℕ) (rose : Type 0) (f : AnswerFault) → HasWriteCause {T = T} writes writes' (Err f) → LookExplains x w Ready Undone Unknown rose (Rose writes writes') (of_answer f)
+    write_explains T writes writes' rose answers.DiskFault h = absurd h
+    write_explains T writes writes' rose (answers.BadStore f p k) h = absurd h
+    write_explains T writes writes' rose answers.WriteFault h = (h, current_ready)
+    write_explains T writes writes' rose answers.NoMemory h = absurd h
 
     -- a call that prints fails
-    pub printing_refused : {T U : Type 0} (writes writes' before mid now : ℕ) (seen : Contents) (f : AnswerFault) (r : Result T Status) → IsErrAnd r (λ y. y ≡ of_answer f) → before ≤ mid → seen ≡ x.before → HasAnswerCause {T = U} writes writes' mid now (IsBlamed s x.tells seen (w.first s) (w.number s)) (Err f) → LookExplains x w Ready Undone Unknown (DiskRose before now) (Rose writes writes') (status_of r)
-    printing_refused {T} {U} writes writes' before mid now seen f r is later same h =
+    pub printing_refused : {T : Type 0} (U : Type 0) (writes writes' before mid now : ℕ) (seen : Contents) (f : AnswerFault) (r : Result T Status) → IsErrAnd r (λ y. y ≡ of_answer f) → before ≤ mid → seen ≡ x.before → HasAnswerCause {T = U} writes writes' mid now (IsBlamed s x.tells seen (w.first s) (w.number s)) (Err f) → LookExplains x w Ready Undone Unknown (DiskRose before now) (Rose writes writes') (status_of r)
+    printing_refused {T} U writes writes' before mid now seen f r is later same h =
         let same_store = λ (file place : ℕ) (kind : FormKind) (b : IsBlamed s x.tells seen (w.first s) (w.number s) file place kind). subst (λ (c : Contents). IsBlamed s x.tells c (w.first s) (w.number s) file place kind) same b in
         let cause = cause_later writes writes writes' before mid now (IsBlamed s x.tells seen (w.first s) (w.number s)) (IsBlamed s x.tells x.before (w.first s) (w.number s)) U U f (omega arith) later same_store h in
-        status_at (λ (y : Status). LookExplains x w Ready Undone Unknown (DiskRose before now) (Rose writes writes') y) r (of_answer f) is (print_explains {T = U} writes writes' before now f cause)
+        status_at (λ (y : Status). LookExplains x w Ready Undone Unknown (DiskRose before now) (Rose writes writes') y) r (of_answer f) is (print_explains U writes writes' before now f cause)
 
-    pub writing_refused : {T U : Type 0} (writes writes' : ℕ) (rose : Type 0) (f : AnswerFault) (r : Result T Status) → IsErrAnd r (λ y. y ≡ of_answer f) → HasWriteCause {T = U} writes writes' (Err f) → LookExplains x w Ready Undone Unknown rose (Rose writes writes') (status_of r)
-    writing_refused {T} {U} writes writes' rose f r is h =
-        status_at (λ (y : Status). LookExplains x w Ready Undone Unknown rose (Rose writes writes') y) r (of_answer f) is (write_explains {T = U} writes writes' rose f h)
+    pub writing_refused : {T : Type 0} (U : Type 0) (writes writes' : ℕ) (rose : Type 0) (f : AnswerFault) (r : Result T Status) → IsErrAnd r (λ y. y ≡ of_answer f) → HasWriteCause {T = U} writes writes' (Err f) → LookExplains x w Ready Undone Unknown rose (Rose writes writes') (status_of r)
+    writing_refused {T} U writes writes' rose f r is h =
+        status_at (λ (y : Status). LookExplains x w Ready Undone Unknown rose (Rose writes writes') y) r (of_answer f) is (write_explains U writes writes' rose f h)

@@ -56,7 +56,7 @@ printed_short tells IsText old new f r is h = status_at (λ (y : Status). Prints
 
 -- ---- what the contents hold is one store
 
-manifest_at : Manifest → Result Found OpenFault → Manifest
+abbrev manifest_at : Manifest → Result Found OpenFault → Manifest
 manifest_at m (Ok (At slot found)) = found
 manifest_at m (Ok Blank) = m
 manifest_at m (Err f) = m
@@ -123,12 +123,12 @@ module _ (s : OpenStore) (c now : Contents) (same : now ≡ c) (tells : Bool) (h
   pub dump_whole : (read : List (List Born)) → IsDone s.manifest → IsPrinted {T = Unit {0}} s tells now 0 (length s.manifest.parts) (dump_text s.manifest.labels) old new (Ok tt) read → IsTrue tells → (text : List ℕ) × IsDumpText c text × Appends old new text
   dump_whole read done printed t =
       let p = subst (λ (x : Contents). IsPrinted {T = Unit {0}} s tells x 0 (length s.manifest.parts) (dump_text s.manifest.labels) old new (Ok tt) read) same printed in
-      let end = record { slot = s.slot; current = (held t).current; rules = s.rules; grammar = (held t).grammar; listed = read_listed read t p.are_read p.all; done = done } in
+      let end : IsEnd c s.manifest read = record { slot = s.slot; current = (held t).current; rules = s.rules; grammar = (held t).grammar; listed = read_listed read t p.are_read p.all; done = done } in
       (dump_text s.manifest.labels (all_edges read), record { manifest = s.manifest; parts = read; end = end; printed = refl }, p.taken)
 
 -- ---- query
 
-labelled : ℕ → LabelId
+abbrev labelled : ℕ → LabelId
 labelled k = record { 0 = k }
 
 expected : (s : OpenStore) → IsOpenStore s → (i : ℕ) → IsExpect (expect_in s i)
@@ -232,7 +232,7 @@ module _ (s : OpenStore) (tells : Bool) (label : LabelId) (from : ℕ) (to : Opt
     whole_read name old new [] is done p = absurd (omega (arith, p.0.all))
     whole_read name old new (q ∷ []) is done p =
         let r = first_read q [] p.0.are_read in
-        let end = record { current = (s.slot, held.current); rules = s.rules; grammar = held.grammar; done = done; spells = r.spells t; fits = r.fits } in
+        let end : IsPartEnd c s.manifest from q = record { current = (s.slot, held.current); rules = s.rules; grammar = held.grammar; done = done; spells = r.spells t; fits = r.fits } in
         (whole q, record { manifest = s.manifest; edges = q; end = end; number = label; is_number = is; printed = refl }, subst (λ (e : List Born). Appends old new (whole e)) (append-nil q) p.0.taken)
     whole_read name old new (q ∷ r ∷ rest) is done p = absurd (omega (arith, p.0.few))
 

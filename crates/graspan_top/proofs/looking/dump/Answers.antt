@@ -2,6 +2,7 @@ use Rattle.std.proofs.Common.{◌≡◌, ℕ, Option, List}
 use Rattle.disk_model.specs.Disk.{Rose as DiskRose}
 use Rattle.io_edge.specs.Devices.{Rose}
 use Rattle.store_law.specs.Left.{IsDone}
+use Rattle.graspan_top.specs.Given.{Given}
 use Rattle.graspan_top.specs.Looking.{IsDumpText, IsUnfinished, none_unknown, wants_all}
 use Rattle.graspan_top.proofs.LookLemmas.{found_refused, printing_refused}
 use Rattle.graspan_top.proofs.TextLemmas.{dump_short, dump_whole, printed_short}
@@ -11,16 +12,16 @@ pub returns-in_err-store-clause-explained : goal.returns-in_err-store-clause-exp
 returns-in_err-store-clause-explained g c = λ told.
     let D = g.D.Disk in
     let O = g.O.Sink in
-    let x = record { told = told; tells = D.tells; before = D.seen c.args.disk.now } in
+    let x : Given = record { told = told; tells = D.tells; before = D.seen c.args.disk.now } in
     found_refused x wants_all IsDone IsUnfinished none_unknown (DiskRose (D.faults c.args.disk.now) (D.faults c.finished_store.new.disk)) (Rose (O.faults c.args.out.now) (O.faults c.args.out.now)) c.from_residual.result c.in_err-store.field-0.0 c.from_residual.ensures.1 c.in_err-store.ensures.cause
 
 pub returns-in_err-dump-clause-explained : goal.returns-in_err-dump-clause-explained
 returns-in_err-dump-clause-explained g c = λ told.
     let D = g.D.Disk in
     let O = g.O.Sink in
-    let x = record { told = told; tells = D.tells; before = D.seen c.args.disk.now } in
+    let x : Given = record { told = told; tells = D.tells; before = D.seen c.args.disk.now } in
     let found = c.in_ok-store.ensures in
-    printing_refused x wants_all IsDone IsUnfinished none_unknown c.in_ok-store.store found.held found.done {U = Unit {0}} (O.faults c.args.out.now) (O.faults c.dump.new.sink) (D.faults c.args.disk.now) (D.faults c.finished_store.new.disk) (D.faults c.dump.new.disk) (D.seen c.finished_store.new.disk) c.in_err-dump.field-0.0 c.from_residual-in_err-dump.result c.from_residual-in_err-dump.ensures.1 found.later found.looks.same_seen c.in_err-dump.ensures.cause
+    printing_refused x wants_all IsDone IsUnfinished none_unknown c.in_ok-store.store found.held found.done (Unit {0}) (O.faults c.args.out.now) (O.faults c.dump.new.sink) (D.faults c.args.disk.now) (D.faults c.finished_store.new.disk) (D.faults c.dump.new.disk) (D.seen c.finished_store.new.disk) c.in_err-dump.field-0.0 c.from_residual-in_err-dump.result c.from_residual-in_err-dump.ensures.1 found.later found.looks.same_seen c.in_err-dump.ensures.cause
 
 pub returns-in_err-dump-clause-printed : goal.returns-in_err-dump-clause-printed
 returns-in_err-dump-clause-printed g c =
