@@ -4,3 +4,4 @@ pub mod ReadyLemmas
 pub mod PrintLemmas
 pub mod LookLemmas
 pub mod ShowLemmas
+pub mod TextLemmas

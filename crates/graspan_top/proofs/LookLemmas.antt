@@ -1,6 +1,13 @@
 -- Why a command that only reads answers as it does.
-use Rattle.std.proofs.Common.{◌≡◌, ◌⊎◌, inl, inr, ℕ, ◌+◌, ◌<◌, ◌≤◌, Bool, true, List, [], ◌++◌, length, Option, Some, Ok, Err, refl, sym, ap, subst, ◌∙◌, arith}
-use Rattle.std.specs.Prelude.{IsTrue, Result, Contains}
+use Rattle.std.proofs.Common.{◌≡◌, ◌⊎◌, inl, inr, ℕ, ◌+◌, ◌<◌, ◌≤◌, Bool, true, List, [], ◌∷◌, ◌++◌, length, Option, None, Some, Ok, Err, refl, sym, ap, subst, ◌∙◌, arith}
+use Rattle.std.specs.Prelude.{IsTrue, IfErr, IsErrAnd, Result, Contains, slice_get, slice_index_or}
+use Rattle.std.proofs.lemmas.Bool.{cases_order}
+use Rattle.std.proofs.lemmas.Option.{get_or_from_slice_get, slice_get_within}
+use Rattle.std.proofs.lemmas.List.Elements.{Contains-get_or}
+use Rattle.label_table.specs.Names.{IsTable}
+use Rattle.graph_words.specs.declared.types.LabelId.{LabelId}
+use Rattle.graph_words.specs.declared.types.Born.{Born}
+use Rattle.query_text.specs.Text.{answers_text}
 use Rattle.disk_model.specs.Disk.{Contents, Rose as DiskRose}
 use Rattle.disk_model.specs.declared.form_kind.FormKind.{FormKind}
 use Rattle.manifest.specs.declared.types.Manifest.{Manifest}
@@ -13,22 +20,67 @@ use Rattle.open_store.specs.Store.{IsHeld, OpenStore}
 use Rattle.query_text.specs.declared.fault.AnswerFault.{AnswerFault}
 use Rattle.query_text.specs.declared.fault.AnswerFault.TheVariants as answers
 use Rattle.query_text.specs.Answered.{HasAnswerCause, HasWriteCause, IsBlamed}
+use Rattle.query_text.proofs.Showing.{cause_later}
 use Rattle.io_edge.specs.Devices.{Rose}
 use Rattle.graspan_top.specs.Faults.{of_answer, of_store}
 use Rattle.graspan_top.specs.Given.{Given}
 use Rattle.graspan_top.specs.Looking.{HasCurrent, LookBlames, LookExplains, Wants, loading, opening}
+use Rattle.graspan_top.specs.Printing.{status_of}
+use Rattle.graspan_top.specs.Run.{IsShownText}
 use Rattle.graspan_top.specs.Stages.{FindExplains}
 use Rattle.graspan_top.specs.declared.status.Status.{Status}
 use Rattle.graspan_top.specs.declared.status.Status.TheVariants.{Done, Words, InputFault, OtherInput, ReadFault, DiskFault, WriteFault, NoMemory, BadStore, NoStore, Unfinished, NotKnown}
 
+-- ---- labels
+
+module _ (names : List (List ℕ)) (label : List ℕ) where
+  there : (k l : ℕ) → IsTable names → k < l → slice_get names k ≡ Some label → slice_get names l ≡ Some label → ⊥
+  there k l table before one other =
+      table.once k l [] before (slice_get_within names l label other) (get_or_from_slice_get names k label [] one ∙ sym (get_or_from_slice_get names l label [] other))
+
+  -- a label has one number
+  pub one_number : (k l : ℕ) → IsTable names → slice_get names k ≡ Some label → slice_get names l ≡ Some label → k ≡ l
+  one_number k l table one other =
+      elim (cases_order k l) [
+        inl same ↦ same
+      | inr differ ↦
+          elim differ [
+            inl below ↦ absurd (there k l table below one other)
+          | inr above ↦ absurd (there l k table above other one)
+          ]
+      ]
+
+  -- a label that has a number is there
+  pub has_label : (k : ℕ) → slice_get names k ≡ Some label → Contains names label
+  has_label k is = subst (λ (x : List ℕ). Contains names x) (get_or_from_slice_get names k label [] is) (Contains-get_or names k [] (slice_get_within names k label is))
+
+abbrev labelled : ℕ → LabelId
+labelled k = record { 0 = k }
+
+same_answers : (names : List (List ℕ)) (label : List ℕ) (l k : LabelId) (edges : List Born) (text : List ℕ) → IsTable names → slice_get names l.0 ≡ Some label → slice_get names k.0 ≡ Some label → text ≡ answers_text k None None edges → text ≡ answers_text l None None edges
+same_answers names label l k edges text table one other is = is ∙ ap (λ (n : ℕ). answers_text (labelled n) None None edges) (one_number names label k.0 l.0 table other one)
+
+-- the text of a label that is shown is that of its number
+pub shown_only : (names : List (List ℕ)) → IsTable names → (show : Option (List ℕ)) (label : List ℕ) (l : LabelId) → show ≡ Some label → slice_get names l.0 ≡ Some label → (edges : List Born) (text : List ℕ) → IsShownText names edges show text → text ≡ answers_text l None None edges
+shown_only names table show label l is number edges text shown =
+    let here = subst (λ (s : Option (List ℕ)). IsShownText names edges s text) is shown in
+    same_answers names label l here.0 edges text table number here.1 here.2
+
+-- ---- why no store is printed
+
+-- a status is that of its result
+pub status_at : {T : Type 0} (P : Status → Type 0) (r : Result T Status) (s : Status) → IsErrAnd r (λ y. y ≡ s) → P s → P (status_of r)
+status_at P (Ok x) s is h = absurd is
+status_at P (Err y) s is h = subst P (sym is) h
+
 -- opening is refused
-pub open_refused : {T : Type 0} (tells : Bool) (c : Contents) (Undone : Manifest → ℕ → ℕ → Type 0) (before now : ℕ) (bad : ℕ → ℕ → FormKind → Type 0) → ((f p : ℕ) (k : FormKind) → bad f p k → IsTrue tells → IsBadStore c f p k) → (f : StoreFault) → HasDiskCause {T = T} before now bad (Err f) → FindExplains tells c Undone (DiskRose before now) (of_store f)
-open_refused tells c Undone before now bad why stores.ReadFault h = absurd h
-open_refused tells c Undone before now bad why stores.DiskFault h = h
-open_refused tells c Undone before now bad why (stores.InputFault file line kind) h = absurd h
-open_refused tells c Undone before now bad why (stores.OtherInput file place) h = absurd h
-open_refused tells c Undone before now bad why (stores.BadStore f p k) h = why f p k h
-open_refused tells c Undone before now bad why stores.NoMemory h = tt
+pub open_refused : (T : Type 0) (tells : Bool) (c : Contents) (Undone : Manifest → ℕ → ℕ → Type 0) (before now : ℕ) (bad : ℕ → ℕ → FormKind → Type 0) → ((f p : ℕ) (k : FormKind) → bad f p k → IsTrue tells → IsBadStore c f p k) → (f : StoreFault) → HasDiskCause {T = T} before now bad (Err f) → FindExplains tells c Undone (DiskRose before now) (of_store f)
+open_refused T tells c Undone before now bad why stores.ReadFault h = absurd h
+open_refused T tells c Undone before now bad why stores.DiskFault h = h
+open_refused T tells c Undone before now bad why (stores.InputFault file line kind) h = absurd h
+open_refused T tells c Undone before now bad why (stores.OtherInput file place) h = absurd h
+open_refused T tells c Undone before now bad why (stores.BadStore f p k) h = why f p k h
+open_refused T tells c Undone before now bad why stores.NoMemory h = tt
 
 -- a fault of finding is one of the whole, with more that may be asked
 pub find_more : (tells : Bool) (c : Contents) (Undone More : Manifest → ℕ → ℕ → Type 0) (rose : Type 0) → ((m : Manifest) (i j : ℕ) → Undone m i j → More m i j) → (s : Status) → FindExplains tells c Undone rose s → FindExplains tells c More rose s
@@ -60,6 +112,11 @@ none_done tells c Undone rose NoStore h e = absurd (cc)
 none_done tells c Undone rose (Unfinished i j) h e = absurd (cc)
 none_done tells c Undone rose NotKnown h e = h
 
+-- the label that is shown isn't there
+pub refused_label : {T : Type 0} (names : List (List ℕ)) (show : Option (List ℕ)) (label : List ℕ) (r : Result T Status) (e : Status) → IsErrAnd r (λ y. y ≡ e) → e ≡ NotKnown → show ≡ Some label → (Contains names label → ⊥) → IfErr r (λ s. (s ≡ NotKnown) × (label : List ℕ) × (show ≡ Some label) × (Contains names label → ⊥))
+refused_label names show label (Ok x) e is none shown lacks = absurd is
+refused_label names show label (Err y) e is none shown lacks = (is ∙ none, label, shown, lacks)
+
 module _ (x : Given) (w : Wants) (Ready : Manifest → Type 0) (Undone : Manifest → ℕ → ℕ → Type 0) (Unknown : Manifest → Type 0) where
   pub find_explains : (rose rose' out_rose : Type 0) → (rose → rose') → (s : Status) → FindExplains x.tells x.before Undone rose s → LookExplains x w Ready Undone Unknown rose' out_rose s
   find_explains rose rose' out_rose more Done h = absurd h
@@ -75,19 +132,38 @@ module _ (x : Given) (w : Wants) (Ready : Manifest → Type 0) (Undone : Manifes
   find_explains rose rose' out_rose more (Unfinished i j) h = h
   find_explains rose rose' out_rose more NotKnown h = absurd h
 
+  -- a store was not found, or not one that may be printed
+  pub found_refused : {T : Type 0} (rose out_rose : Type 0) (r : Result T Status) (s : Status) → IsErrAnd r (λ y. y ≡ s) → FindExplains x.tells x.before Undone rose s → LookExplains x w Ready Undone Unknown rose out_rose (status_of r)
+  found_refused rose out_rose r s is h = status_at (λ (y : Status). LookExplains x w Ready Undone Unknown rose out_rose y) r s is (find_explains rose rose out_rose (λ h. h) s h)
+
+  -- what is asked isn't there
+  pub unknown_refused : {T : Type 0} (rose out_rose : Type 0) (r : Result T Status) (e : Status) (s : OpenStore) → (IsTrue x.tells → IsHeld s x.before) → IsErrAnd r (λ y. y ≡ e) → e ≡ NotKnown → Unknown s.manifest → LookExplains x w Ready Undone Unknown rose out_rose (status_of r)
+  unknown_refused rose out_rose r e s held is none unknown = status_at (λ (y : Status). LookExplains x w Ready Undone Unknown rose out_rose y) r e is (rw none (λ tells. (s.manifest, (s.slot, (held tells).current), unknown)))
+
   -- printing is refused
   module _ (s : OpenStore) (held : IsTrue x.tells → IsHeld s x.before) (ready : Ready s.manifest) where
     pub current_ready : IsTrue x.tells → (m : Manifest) × HasCurrent x.before m × Ready m
     current_ready tells = (s.manifest, (s.slot, (held tells).current), ready)
 
-    pub print_explains : {T : Type 0} (writes writes' before now : ℕ) (f : AnswerFault) → HasAnswerCause {T = T} writes writes' before now (IsBlamed s x.tells x.before (w.first s) (w.number s)) (Err f) → LookExplains x w Ready Undone Unknown (DiskRose before now) (Rose writes writes') (of_answer f)
-    print_explains writes writes' before now answers.DiskFault h = h
-    print_explains writes writes' before now (answers.BadStore f p k) h = λ tells. loading s (held tells) ready (subst (λ (b : Bool). IsBlamed s b x.before (w.first s) (w.number s) f p k) tells h)
-    print_explains writes writes' before now answers.WriteFault h = (h, current_ready)
-    print_explains writes writes' before now answers.NoMemory h = tt
+    pub print_explains : (T : Type 0) (writes writes' before now : ℕ) (f : AnswerFault) → HasAnswerCause {T = T} writes writes' before now (IsBlamed s x.tells x.before (w.first s) (w.number s)) (Err f) → LookExplains x w Ready Undone Unknown (DiskRose before now) (Rose writes writes') (of_answer f)
+    print_explains T writes writes' before now answers.DiskFault h = h
+    print_explains T writes writes' before now (answers.BadStore f p k) h = λ tells. loading s (held tells) ready (subst (λ (b : Bool). IsBlamed s b x.before (w.first s) (w.number s) f p k) tells h)
+    print_explains T writes writes' before now answers.WriteFault h = (h, current_ready)
+    print_explains T writes writes' before now answers.NoMemory h = tt
 
-    pub write_explains : {T : Type 0} (writes writes' : ℕ) (rose : Type 0) (f : AnswerFault) → HasWriteCause {T = T} writes writes' (Err f) → LookExplains x w Ready Undone Unknown rose (Rose writes writes') (of_answer f)
-    write_explains writes writes' rose answers.DiskFault h = absurd h
-    write_explains writes writes' rose (answers.BadStore f p k) h = absurd h
-    write_explains writes writes' rose answers.WriteFault h = (h, current_ready)
-    write_explains writes writes' rose answers.NoMemory h = absurd h
+    pub write_explains : (T : Type 0) (writes writes' : ℕ) (rose : Type 0) (f : AnswerFault) → HasWriteCause {T = T} writes writes' (Err f) → LookExplains x w Ready Undone Unknown rose (Rose writes writes') (of_answer f)
+    write_explains T writes writes' rose answers.DiskFault h = absurd h
+    write_explains T writes writes' rose (answers.BadStore f p k) h = absurd h
+    write_explains T writes writes' rose answers.WriteFault h = (h, current_ready)
+    write_explains T writes writes' rose answers.NoMemory h = absurd h
+
+    -- a call that prints fails
+    pub printing_refused : {T : Type 0} (U : Type 0) (writes writes' before mid now : ℕ) (seen : Contents) (f : AnswerFault) (r : Result T Status) → IsErrAnd r (λ y. y ≡ of_answer f) → before ≤ mid → seen ≡ x.before → HasAnswerCause {T = U} writes writes' mid now (IsBlamed s x.tells seen (w.first s) (w.number s)) (Err f) → LookExplains x w Ready Undone Unknown (DiskRose before now) (Rose writes writes') (status_of r)
+    printing_refused {T} U writes writes' before mid now seen f r is later same h =
+        let same_store = λ (file place : ℕ) (kind : FormKind) (b : IsBlamed s x.tells seen (w.first s) (w.number s) file place kind). subst (λ (c : Contents). IsBlamed s x.tells c (w.first s) (w.number s) file place kind) same b in
+        let cause = cause_later writes writes writes' before mid now (IsBlamed s x.tells seen (w.first s) (w.number s)) (IsBlamed s x.tells x.before (w.first s) (w.number s)) U U f (omega arith) later same_store h in
+        status_at (λ (y : Status). LookExplains x w Ready Undone Unknown (DiskRose before now) (Rose writes writes') y) r (of_answer f) is (print_explains U writes writes' before now f cause)
+
+    pub writing_refused : {T : Type 0} (U : Type 0) (writes writes' : ℕ) (rose : Type 0) (f : AnswerFault) (r : Result T Status) → IsErrAnd r (λ y. y ≡ of_answer f) → HasWriteCause {T = U} writes writes' (Err f) → LookExplains x w Ready Undone Unknown rose (Rose writes writes') (status_of r)
+    writing_refused {T} U writes writes' rose f r is h =
+        status_at (λ (y : Status). LookExplains x w Ready Undone Unknown rose (Rose writes writes') y) r (of_answer f) is (write_explains U writes writes' rose f h)

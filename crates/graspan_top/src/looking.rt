@@ -1,6 +1,6 @@
 //! The commands that only read a store: `query`, `dump` and `parts`.
-ghost use Rattle.std.specs.Prelude.{◌≡◌, ◌≤◌, ◌<◌, ◌++◌, ℕ, List, Option, Some, IsTrue, IfErr, IfOk, IfSome, OnOk, OnErr, length, slice_get};
-ghost use Rattle.io_edge.specs.Devices.{Rose, Takes};
+ghost use Rattle.std.specs.Prelude.{◌≡◌, ◌≤◌, ◌<◌, ◌++◌, [], ℕ, List, Option, Some, IsTrue, IfErr, IfOk, IfSome, OnOk, OnErr, length, slice_get};
+ghost use Rattle.io_edge.specs.Devices.{AppendsPrefix, Rose, Takes};
 ghost use Rattle.disk_model.specs.Disk.{Contents, Rose as DiskRose};
 ghost use Rattle.graph_words.specs.declared.types.Born.{Born as ABorn};
 ghost use Rattle.closing_machine.specs.Parts.{all_edges};
@@ -130,7 +130,7 @@ fn count_line(count: u64) -> ArrayVec<u8, 32>
     line
 }
 
-/// Prints the answers and their number.
+/// Prints the answers and their number. Nothing is printed where the partition isn't read.
 fn print_query<D: Disk, O: Sink>(
     alloc: Global,
     disk: &mut D,
@@ -141,7 +141,7 @@ fn print_query<D: Disk, O: Sink>(
 ) -> Result<(), AnswerFault>
     requires { ends.from < store.now.manifest.vertices }
     ensures printed { (read : List (List ABorn)) × IsPrinted store.now D.tells (D.seen disk.old) (first_asked store.now (Some ends.from)) 1
-        (λ edges. answers_text label (Some ends.from) ends.to edges ++ the_count_line (length (answers_in label (Some ends.from) ends.to edges))) (O.told out.old) (O.told out.new) result read }
+        (λ edges. answers_text label (Some ends.from) ends.to edges ++ the_count_line (length (answers_in label (Some ends.from) ends.to edges))) (O.told out.old) (O.told out.new) result read × (length read ≡ 0 → AppendsPrefix (O.told out.old) (O.told out.new) []) }
     ensures looks { OnlyLooks D.seen D.may_leave D.moment D.left_since disk.old disk.new }
     ensures later { D.faults disk.old ≤ D.faults disk.new }
     ensures writes { O.faults out.old ≤ O.faults out.new }
