@@ -171,6 +171,10 @@ pub on_ok : {U E : Type 0} (r : Result U E) (P : Type 0) → P → OnOk r P
 on_ok (Ok y) P p = p
 on_ok (Err y) P p = tt
 
+pub map_ok : {U E : Type 0} (r : Result U E) (P Q : Type 0) → OnOk r P → (P → Q) → OnOk r Q
+map_ok (Ok y) P Q p f = f p
+map_ok (Err y) P Q p f = tt
+
 -- what `?` hands on
 pub if_err : {U E : Type 0} (r : Result U E) (e : E) (P : E → Type 0) → IsErrAnd r (λ x. x ≡ e) → P e → IfErr r P
 if_err (Ok y) e P is p = tt

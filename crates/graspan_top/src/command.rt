@@ -61,7 +61,7 @@ fn end<O: Sink>(out: &mut O, ended: Result<(), Status>) -> Status
     ensures writes { O.faults out.old ≤ O.faults out.new }
 {
     match ended {
-        Ok(()) => Status::Done,
+        Ok(()) | Err(Status::Done) => Status::Done,
         Err(Status::WriteFault) => Status::WriteFault,
         Err(status) => {
             print_fault(out, status);
