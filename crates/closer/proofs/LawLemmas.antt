@@ -1,8 +1,7 @@
 -- Stores of two texts after steps, and after stops.
-use Rattle.std.proofs.Common.{◌≡◌, ℕ, zero, suc, ◌+◌, ◌<◌, ◌≤◌, List, [], true, length, take, refl, sym, ap, ◌∙◌, subst, arith, inl, inr}
-use Rattle.std.specs.Prelude.{slice_index_or, Ok}
+use Rattle.std.proofs.Common.{◌≡◌, ℕ, zero, suc, ◌+◌, ◌<◌, ◌≤◌, List, [], true, length, refl, sym, ap, ◌∙◌, subst, arith, inr}
+use Rattle.std.specs.Prelude.{slice_index_or}
 use Rattle.graph_words.specs.declared.types.Born.{Born}
-use Rattle.graph_words.specs.declared.types.Rule.{Rule}
 use Rattle.graph_words.specs.Text.{said, third}
 use Rattle.graph_words.specs.Reach.{Graph}
 use Rattle.std.specs.List.{flat_map}
@@ -11,12 +10,9 @@ use Rattle.grammar_norm.specs.GrammarText.{ReadsGrammar}
 use Rattle.normal_law.specs.Closure.{Normal}
 use Rattle.closing_machine.specs.State.{State}
 use Rattle.closing_machine.specs.Holds.{Holds, IsTask}
-use Rattle.closing_machine.specs.Tells.{Tells}
 use Rattle.closing_machine.proofs.Superstepping.{superstep_keeps}
 use Rattle.disk_model.specs.Disk.{Contents}
 use Rattle.partition_file.specs.Spelling.{Spells}
-use Rattle.dest_map.specs.Table.{counts_of}
-use Rattle.pair_sched.specs.Marks.{joined_of, newest_of}
 use Rattle.manifest.specs.declared.types.Manifest.{Manifest}
 use Rattle.manifest.specs.Spelling.{Fits}
 use Rattle.store_law.specs.Texts.{Texts, graph, normal, rules}
@@ -54,11 +50,11 @@ store_kept t d c m parts s r =
       slot = s.slot;
       current = r.same ∙ s.current;
       rest = record {
-          texts = texts_elsewhere t d c m r.grammar_copy r.edges_copy s.rest.texts;
-          listed = listed_elsewhere d c m (normal t).fresh parts r.parts s.rest.listed;
-          holds = s.rest.holds;
-          tells = s.rest.tells;
-        };
+        texts = texts_elsewhere t d c m r.grammar_copy r.edges_copy s.rest.texts;
+        listed = listed_elsewhere d c m (normal t).fresh parts r.parts s.rest.listed;
+        holds = s.rest.holds;
+        tells = s.rest.tells;
+      };
     }
 
 -- ---- steps
@@ -86,13 +82,16 @@ IsAfter t k d s next = (after : List (List Born)) × IsStoreOf t d next after ×
 pub store_after : (t : Texts) (c d : Contents) (k : ℕ) (m next : Manifest) (parts : List (List Born)) → IsStoreOf t c m parts → Continues (normal t) k c m d next → IsAfter t k d (state_in m parts) next
 store_after t c d k m next parts s on =
     let e = on.steps parts s.listed s.tells in
-    let few : length m.labels ≤ 1000 = s.texts.fits.labels.short in
-    (e.0, record {
+    let few : length m.labels ≤ 1000 = s.texts.fits.labels.short in (
+      e.0,
+      record {
         texts = texts_after t c d k m next s.texts on;
         listed = e.1;
         holds = steps_hold (normal t) (graph t) k (state_in m parts) (state_in next e.0) (task_of_texts t (omega (arith, few, ap length s.texts.labels))) s.holds e.3;
         tells = e.2;
-      }, e.3)
+      },
+      e.3,
+    )
 
 pub left_further : (t : Texts) (seen c : Contents) (m : Manifest) (parts : List (List Born)) → IsStoreOf t seen m parts → GoesOn (normal t) seen m c → IsLeft t c
 left_further t seen c m parts s on =
@@ -142,9 +141,9 @@ continues_further n k l c d e m mid next a b =
       grammar_copy = b.grammar_copy ∙ a.grammar_copy;
       edges_copy = b.edges_copy ∙ a.edges_copy;
       steps = λ parts listed tells.
-      let f = a.steps parts listed tells in
-      let g = b.steps f.0 f.1 f.2 in
-      (g.0, g.1, g.2, steps_add n k l (state_in m parts) (state_in mid f.0) (state_in next g.0) f.3 g.3);
+          let f = a.steps parts listed tells in
+          let g = b.steps f.0 f.1 f.2 in
+          (g.0, g.1, g.2, steps_add n k l (state_in m parts) (state_in mid f.0) (state_in next g.0) f.3 g.3);
     }
 
 -- where the files that the last manifest needs are as before
@@ -159,6 +158,6 @@ continues_elsewhere n k c d e m next a grammar edges files =
       grammar_copy = grammar ∙ a.grammar_copy;
       edges_copy = edges ∙ a.edges_copy;
       steps = λ parts listed tells.
-      let f = a.steps parts listed tells in
-      (f.0, listed_elsewhere d e next n.fresh f.0 files f.1, f.2, f.3);
+          let f = a.steps parts listed tells in
+          (f.0, listed_elsewhere d e next n.fresh f.0 files f.1, f.2, f.3);
     }

@@ -1,2 +1,14 @@
 pub mod LawLemmas
-pub mod Stubs
+pub mod Sums
+pub mod Bounds
+pub mod Running
+pub mod Turning
+pub mod Nexting
+pub mod Flat
+pub mod Listing
+pub mod StepLemmas
+pub mod Ending
+pub mod Images
+pub mod PutLemmas
+pub mod Rooming
+pub mod Closings

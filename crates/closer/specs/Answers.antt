@@ -1,15 +1,13 @@
 -- What steps of closing answer, and why.
 use Rattle.std.specs.Prelude.{◌≡◌, ◌⊎◌, ℕ, ◌<◌, true, Bool, IsTrue, length}
 use Rattle.normal_law.specs.NormalForm.{normal_form}
-use Rattle.normal_law.specs.Closure.{Normal}
 use Rattle.closing_machine.specs.State.{IsPick}
 use Rattle.closing_machine.specs.Machine.{is_among}
 use Rattle.disk_model.specs.Disk.{Contents}
-use Rattle.disk_model.specs.Crash.{From, LeavesJust}
+use Rattle.disk_model.specs.Crash.{LeavesJust}
 use Rattle.disk_model.specs.declared.form_kind.FormKind.{FormKind}
 use Rattle.dest_map.specs.Table.{counts_of}
 use Rattle.pair_sched.specs.Marks.{joined_of, newest_of}
-use Rattle.manifest.specs.declared.types.Manifest.{Manifest}
 use Rattle.manifest_switch.specs.Slots.{other}
 use Rattle.store_law.specs.Listed.{part_file}
 use Rattle.store_law.specs.Left.{IsDone}
@@ -45,9 +43,9 @@ pub record IsClosed (tells : Bool) (seen_before : Contents) (images_before : Con
   pub held : (c : Contents) → images c → IsHeldAlone s c
   pub synced : LeavesJust seen_before images_before → LeavesJust seen images
 
--- what a crash leaves: an image from before with the store as it was, or a store that goes on from it
-abbrev pub KeepsOrGoesOn : OpenStore → Contents → (Contents → Type 0) → Contents → Type 0
-KeepsOrGoesOn s seen images c = From images (Retains s.manifest) c ⊎ GoesOn (normal_form s.rules) seen s.manifest c
+-- what steps make of an image at each moment: it keeps the store as it was, or goes on from it as a read gave it
+abbrev pub Moves : OpenStore → Contents → Contents → Contents → Type 0
+Moves s seen old new = Retains s.manifest old new ⊎ GoesOn (normal_form s.rules) seen s.manifest new
 
 -- a partition of the pair that is picked is blamed, whose file, as read, is no file of it
 pub record BlamesPicked (s : OpenStore) (tells : Bool) (seen : Contents) (file place : ℕ) (kind : FormKind) : Type 0 where

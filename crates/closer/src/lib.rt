@@ -1,12 +1,20 @@
-//! Stub.
+//! The closing of a store, step by step: a pair of partitions with work left is picked, loaded, run and put.
 #![tactic(auto)]
 
 mod laws;
+mod making;
 mod options;
+mod pairing;
+mod putting;
 mod stepping;
 mod to_end;
 
-pub use laws::{held_stores_have_the_rules_of_their_texts, steps_keep_a_store, stops_leave_a_store};
+pub use laws::{
+    held_stores_have_the_rules_of_their_texts, steps_keep_a_store, stops_leave_a_store,
+};
 pub use options::RunOptions;
-pub use stepping::Stepped;
+pub use stepping::{Stepped, step};
 pub use to_end::run_to_end;
+
+#[cfg(test)]
+mod tests;

@@ -3,5 +3,5 @@ mod NumberLemmas
 mod GivenLemmas
 mod KindLemmas
 mod CutsLemmas
-mod ReadingLemmas
+pub mod ReadingLemmas
 mod AskLemmas

@@ -2,7 +2,7 @@
 use Rattle.std.proofs.Common.{◌≡◌, ◌≤◌, ◌<◌, ℕ, List, [], ◌∷◌, Option, Some, None, All, length, drop, slice_index_or, codes, unwrap_or, arith, ap, subst, refl, sym, ◌∙◌}
 use Rattle.std.specs.Str.Parse.{digits_value}
 use Rattle.command_words.specs.Words.{Given}
-use Rattle.command_words.specs.Command.{Said, run, query, dump, parts, Says, Reading, IsDestination, AreNumbers, IsNumberOr, value_of}
+use Rattle.command_words.specs.Command.{Said, run, query, dump, parts, Says, Reading, IsDestination, AreNumbers, IsNumberOr, AreWithin, RunsWithin, value_of}
 use Rattle.command_words.specs.Cutting.{Cut, any, cut_from}
 use Rattle.closer.specs.declared.options.RunOptions.{RunOptions}
 use Rattle.command_words.proofs.CutsLemmas.{cut, cut_of, cuts_of}
@@ -34,8 +34,24 @@ says_of words name c command is e r =
     let named : r.name ≡ name = sym (is ∙ ap (λ l. slice_index_or l 0 []) r.first) in
     subst (λ n. Says n c.options c.plain command) named (subst (λ x. Says r.name x.options x.plain command) same r.says)
 
-pub some_word : (words : List (List ℕ)) (command : Said) → length words ≡ 0 → Reading words command → ⊥
-some_word words command none r = let len = ap length r.first in absurd (omega arith)
+-- ---- the ranges of a run's numbers
+
+number_within : (default least most : ℕ) (word : Option (List ℕ)) (n : ℕ) → least ≤ default → default ≤ most → IsNumberOr default least most word n → (least ≤ n) × (n ≤ most)
+number_within default least most None n low high is = (rw is low, rw is high)
+number_within default least most (Some word) n low high is = (is.not_less, is.not_more)
+
+numbers_within : (options : List Given) (n : RunOptions) → AreNumbers options n → AreWithin n
+numbers_within options n are =
+    let workers = number_within 4 1 64 (value_of (codes "workers") options) n.workers (omega arith) (omega arith) are.workers_is in
+    let edges = number_within 1000000 1 4294967295 (value_of (codes "part-edges") options) n.part_edges (omega arith) (omega arith) are.part_edges_is in
+    let budget = number_within 16000000 1 4294967295 (value_of (codes "budget") options) n.budget (omega arith) (omega arith) are.budget_is in
+    record { some_workers = workers.0; few_workers = workers.1; some_edges = edges.0; few_edges = edges.1; some_budget = budget.0; small_budget = budget.1 }
+
+pub runs_within : (name : List ℕ) (options : List Given) (plains : List (List ℕ)) (c : Said) → Says name options plains c → RunsWithin c
+runs_within name options plains (run edges grammar numbers show) says = numbers_within options numbers says.2.numbers_are
+runs_within name options plains (query label from to) says = tt
+runs_within name options plains dump says = tt
+runs_within name options plains parts says = tt
 
 -- ---- one reading
 

@@ -93,6 +93,20 @@ pub record Reading (words : List (List ℕ)) (command : Said) : Type 0 where
   pub cut : Cuts others options plains
   pub says : Says name options plains command
 
+-- the numbers of a run lie in their ranges
+pub record AreWithin (numbers : RunOptions) : Type 0 where
+  pub some_workers : 1 ≤ numbers.workers
+  pub few_workers : numbers.workers ≤ 64
+  pub some_edges : 1 ≤ numbers.part_edges
+  pub few_edges : numbers.part_edges ≤ 4294967295
+  pub some_budget : 1 ≤ numbers.budget
+  pub small_budget : numbers.budget ≤ 4294967295
+
+-- where the command is a run, its numbers lie in their ranges
+abbrev pub RunsWithin : Said → Type 0
+RunsWithin (run edges grammar numbers show) = AreWithin numbers
+RunsWithin _ = Unit {0}
+
 -- the command that was read, its names as bytes
 abbrev pub said : Command → Said
 said (commands.Run edges grammar options show) = run edges.now grammar.now options (option_map (λ s. s.now) show)

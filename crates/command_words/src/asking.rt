@@ -12,10 +12,10 @@ ghost use Rattle.command_words.specs.Command.{IsNumber, GiveNumbers};
 ghost use Rattle.command_words.specs.Asking.{asked, number_rule, numbers_app, option_words, HasTexts, IsDigits};
 
 use crate::fault::WordsFault;
-use closer::RunOptions;
 use clap::builder::ValueParser;
 use clap::error::ErrorKind;
 use clap::{Arg, ArgMatches, Command, Error};
+use closer::RunOptions;
 use std::alloc::{AllocError, Global};
 
 /// The greatest number of an option other than `--workers`.

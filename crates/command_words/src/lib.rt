@@ -14,5 +14,4 @@ mod tests;
 
 pub use command::Command;
 pub use fault::WordsFault;
-
 pub use reading::{one_reading, read_command};

@@ -2,7 +2,7 @@
 ghost use Rattle.std.specs.Prelude.{◌≡◌, ◌≤◌, ◌↔◌, ℕ, List, [], Option, IsTrue, IfOk, IfErr, IfSome, IfNone, All, length, map, option_map, codes};
 ghost use Rattle.graph_words.specs.Text.{IsLabel, IsVertexNumber};
 ghost use Rattle.command_words.specs.declared.fault.WordsFault.TheVariants.{Words};
-ghost use Rattle.command_words.specs.Command.{IsDestination, Said, Says, Reading, said, value_of};
+ghost use Rattle.command_words.specs.Command.{IsDestination, Said, Says, Reading, RunsWithin, said, value_of};
 ghost use Rattle.command_words.specs.Cutting.{given_said};
 
 use crate::command::Command;
@@ -138,6 +138,7 @@ fn are_full(words: &WordList) -> bool
 /// command, and `NoMemory` for want of memory. Any words may be handed in.
 pub fn read_command<'a>(alloc: Global, words: &'a WordList) -> Result<Command<'a>, WordsFault>
     ensures reading { IfOk result (λ c. Reading words.now (said c)) }
+    ensures within { IfOk result (λ c. RunsWithin (said c)) }
     ensures words { IfErr result (λ e. e ≡ Words → (c : Said) → Reading words.now c → ⊥) }
 {
     if words.len() == 0 || !are_full(words) {

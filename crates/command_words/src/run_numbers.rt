@@ -10,8 +10,8 @@ ghost use Rattle.command_words.specs.Cutting.{given_said};
 use crate::asking::ask_numbers;
 use crate::cutting::Given;
 use crate::fault::WordsFault;
-use closer::RunOptions;
 use crate::run_options::find_option;
+use closer::RunOptions;
 use std::alloc::Global;
 
 /// Whether a word is one digit or more.

@@ -1,4 +1,5 @@
-use crate::{Command, RunOptions, WordsFault, one_reading, read_command};
+use crate::{Command, WordsFault, one_reading, read_command};
+use closer::RunOptions;
 use io_edge::WordList;
 use std::alloc::{AllocError, Global};
 use std::test::Fail;

@@ -1,6 +1,6 @@
 -- Why a run answers as it does, from what its steps say.
 use Rattle.std.proofs.Common.{◌≡◌, ◌⊎◌, inl, inr, ℕ, ◌≤◌, List, length, Option, Some, Ok, Err, refl, sym, ap, subst, ◌∙◌, arith}
-use Rattle.std.specs.Prelude.{IsTrue, Bool, Result, IfErr, IsErrAnd, OnOk}
+use Rattle.std.specs.Prelude.{IsTrue, Bool, Result, IfErr, IsErrAnd}
 use Rattle.io_edge.specs.Devices.{Rose}
 use Rattle.io_edge.specs.declared.kinds.InputFile.TheVariants.{Grammar, Edges, Source}
 use Rattle.edge_text.specs.EdgesText.{edges_fault}
@@ -166,14 +166,6 @@ not_done stores.NoMemory e = absurd (cc)
 pub on_status : {U : Type 0} (r : Result U Status) (e : Status) (P : Status → Type 0) → IsErrAnd r (λ x. x ≡ e) → P e → P (status_of r)
 on_status (Ok y) e P is p = absurd is
 on_status (Err y) e P is p = subst P (sym is) p
-
-pub on_ok : {U E : Type 0} (r : Result U E) (P : Type 0) → P → OnOk r P
-on_ok (Ok y) P p = p
-on_ok (Err y) P p = tt
-
-pub map_ok : {U E : Type 0} (r : Result U E) (P Q : Type 0) → OnOk r P → (P → Q) → OnOk r Q
-map_ok (Ok y) P Q p f = f p
-map_ok (Err y) P Q p f = tt
 
 -- what `?` hands on
 pub if_err : {U E : Type 0} (r : Result U E) (e : E) (P : E → Type 0) → IsErrAnd r (λ x. x ≡ e) → P e → IfErr r P

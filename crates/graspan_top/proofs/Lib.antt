@@ -5,3 +5,4 @@ pub mod PrintLemmas
 pub mod LookLemmas
 pub mod ShowLemmas
 pub mod TextLemmas
+pub mod CommandLemmas

@@ -167,3 +167,18 @@ module _ (x : Given) (w : Wants) (Ready : Manifest → Type 0) (Undone : Manifes
     pub writing_refused : {T : Type 0} (U : Type 0) (writes writes' : ℕ) (rose : Type 0) (f : AnswerFault) (r : Result T Status) → IsErrAnd r (λ y. y ≡ of_answer f) → HasWriteCause {T = U} writes writes' (Err f) → LookExplains x w Ready Undone Unknown rose (Rose writes writes') (status_of r)
     writing_refused {T} U writes writes' rose f r is h =
         status_at (λ (y : Status). LookExplains x w Ready Undone Unknown rose (Rose writes writes') y) r (of_answer f) is (write_explains U writes writes' rose f h)
+
+-- a write that failed in a part failed in the whole
+pub look_later : (x : Given) (w : Wants) (Ready : Manifest → Type 0) (Undone : Manifest → ℕ → ℕ → Type 0) (Unknown : Manifest → Type 0) (rose out_rose out_rose' : Type 0) → (out_rose → out_rose') → (s : Status) → LookExplains x w Ready Undone Unknown rose out_rose s → LookExplains x w Ready Undone Unknown rose out_rose' s
+look_later x w Ready Undone Unknown rose out_rose out_rose' more Done h = h
+look_later x w Ready Undone Unknown rose out_rose out_rose' more Words h = h
+look_later x w Ready Undone Unknown rose out_rose out_rose' more (InputFault file line kind) h = h
+look_later x w Ready Undone Unknown rose out_rose out_rose' more (OtherInput file place) h = h
+look_later x w Ready Undone Unknown rose out_rose out_rose' more ReadFault h = h
+look_later x w Ready Undone Unknown rose out_rose out_rose' more DiskFault h = h
+look_later x w Ready Undone Unknown rose out_rose out_rose' more NoMemory h = h
+look_later x w Ready Undone Unknown rose out_rose out_rose' more (BadStore file place kind) h = h
+look_later x w Ready Undone Unknown rose out_rose out_rose' more NoStore h = h
+look_later x w Ready Undone Unknown rose out_rose out_rose' more (Unfinished i j) h = h
+look_later x w Ready Undone Unknown rose out_rose out_rose' more NotKnown h = h
+look_later x w Ready Undone Unknown rose out_rose out_rose' more WriteFault h = (more h.0, h.1)

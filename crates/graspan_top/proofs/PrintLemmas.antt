@@ -55,3 +55,22 @@ ends_later old new rose rose' more (BadStore file place kind) h = line_later old
 ends_later old new rose rose' more NoStore h = line_later old new rose rose' more (fault_line NoStore) h
 ends_later old new rose rose' more (Unfinished i j) h = line_later old new rose rose' more (fault_line (Unfinished i j)) h
 ends_later old new rose rose' more NotKnown h = line_later old new rose rose' more (fault_line NotKnown) h
+
+-- a status without a line, and one with a line
+pub silent_ends : (old : Option (List ℕ)) (rose : Type 0) (s : Status) → (s ≡ Done) ⊎ (s ≡ WriteFault) → Ends old old rose s
+silent_ends old rose s (inl e) = subst (λ (k : Status). Ends old old rose k) (sym e) refl
+silent_ends old rose s (inr e) = subst (λ (k : Status). Ends old old rose k) (sym e) refl
+
+pub loud_ends : (old new : Option (List ℕ)) (rose : Type 0) (s : Status) → (s ≡ Done → ⊥) → (s ≡ WriteFault → ⊥) → TakesLine old new rose (fault_line s) → Ends old new rose s
+loud_ends old new rose Words a b line = line
+loud_ends old new rose (InputFault file number kind) a b line = line
+loud_ends old new rose (OtherInput file place) a b line = line
+loud_ends old new rose ReadFault a b line = line
+loud_ends old new rose DiskFault a b line = line
+loud_ends old new rose NoMemory a b line = line
+loud_ends old new rose (BadStore file place kind) a b line = line
+loud_ends old new rose NoStore a b line = line
+loud_ends old new rose (Unfinished i j) a b line = line
+loud_ends old new rose NotKnown a b line = line
+loud_ends old new rose Done a b line = absurd (a refl)
+loud_ends old new rose WriteFault a b line = absurd (b refl)

@@ -1,5 +1,5 @@
 //! The command that words mean.
-ghost use Rattle.std.specs.Prelude.{◌≡◌, ◌⊎◌, ◌≤◌, ℕ, List, Option, Some, IsTrue, OnOk};
+ghost use Rattle.std.specs.Prelude.{◌≡◌, ◌≢◌, true, false, ◌⊎◌, ◌≤◌, ℕ, List, Option, Some, IsTrue, OnOk};
 ghost use Rattle.io_edge.specs.Devices.{Rose};
 ghost use Rattle.disk_model.specs.Disk.{Contents, Rose as DiskRose};
 ghost use Rattle.manifest_switch.specs.Looks.{OnlyLooks};
@@ -8,10 +8,10 @@ ghost use Rattle.store_law.specs.Listed.{AreExact};
 ghost use Rattle.store.specs.Import.{texts_of};
 ghost use Rattle.closer.specs.declared.options.RunOptions.{RunOptions as TheOptions};
 ghost use Rattle.command_words.specs.Command.{Reading, Said, run as runs, said};
-ghost use Rattle.graspan_top.specs.declared.status.Status.TheVariants.{Done, NoMemory, Words};
+ghost use Rattle.graspan_top.specs.declared.status.Status.TheVariants.{Done, NoMemory, Words, WriteFault};
 ghost use Rattle.graspan_top.specs.Command.{Explains, IsLook, IsTextOf};
 ghost use Rattle.graspan_top.specs.Given.{Given as AGiven};
-ghost use Rattle.graspan_top.specs.Printing.{Ends as EndsAs, Prints, PrintsFirst, status_of};
+ghost use Rattle.graspan_top.specs.Printing.{Ends as EndsAs, Prints, PrintsFirst, status_of as the_status};
 
 use crate::looking::{Ends, dump, parts, query};
 use crate::print::print_fault;
@@ -31,10 +31,10 @@ fn carry_out<I: Inputs, D: Disk, O: Sink>(
     disk: &mut D,
     out: &mut O,
 ) -> Result<(), Status>
-    ensures explained { Explains (record { told = I.told inputs.old; tells = D.tells; before = D.seen disk.old }) (D.seen disk.new) (λ name. Rose (I.faults inputs.old name) (I.faults inputs.new name)) (DiskRose (D.faults disk.old) (D.faults disk.new)) (Rose (O.faults out.old) (O.faults out.new)) (said command.entry) (status_of result) }
-    ensures printed { PrintsFirst D.tells (IsTextOf (D.seen disk.new) (said command.entry)) (O.told out.old) (O.told out.new) (status_of result) }
-    ensures exact { OnOk result ((edges grammar : List ℕ) (options : TheOptions) (show : Option (List ℕ)) → said command.entry ≡ runs edges grammar options show → IsTrue D.tells → (g e : List ℕ) → I.told inputs.old grammar ≡ Some g → I.told inputs.old edges ≡ Some e → IsLeft (texts_of g e) (D.seen disk.old)
-        → AreExact (texts_of g e) (D.seen disk.new) × ((c : Contents) → D.may_leave disk.new c → AreExact (texts_of g e) c)) }
+    ensures explained { Explains (record { told = I.told inputs.old; tells = D.tells; before = D.seen disk.old }) (D.seen disk.new) (λ name. Rose (I.faults inputs.old name) (I.faults inputs.new name)) (DiskRose (D.faults disk.old) (D.faults disk.new)) (Rose (O.faults out.old) (O.faults out.new)) (said command.entry) (the_status result) }
+    ensures printed { PrintsFirst D.tells (IsTextOf (D.seen disk.new) (said command.entry)) (O.told out.old) (O.told out.new) (the_status result) }
+    ensures exact { (edges grammar : List ℕ) (options : TheOptions) (show : Option (List ℕ)) → said command.entry ≡ runs edges grammar options show → IsTrue D.tells → (g e : List ℕ) → I.told inputs.old grammar ≡ Some g → I.told inputs.old edges ≡ Some e → IsLeft (texts_of g e) (D.seen disk.old)
+        → the_status result ≡ Done → AreExact (texts_of g e) (D.seen disk.new) × ((c : Contents) → D.may_leave disk.new c → AreExact (texts_of g e) c) }
     ensures looks { IsLook (said command.entry) → OnlyLooks D.seen D.may_leave D.moment D.left_since disk.old disk.new }
     ensures kept { I.told inputs.new ≡ I.told inputs.old }
     ensures others { (other : List ℕ) → I.faults inputs.old other ≤ I.faults inputs.new other }
@@ -54,20 +54,36 @@ fn carry_out<I: Inputs, D: Disk, O: Sink>(
     }
 }
 
-/// Prints the line of a fault, and answers it.
+/// How a command ended.
+fn status_of(ended: Result<(), Status>) -> Status
+    ensures { result ≡ the_status ended }
+{
+    match ended {
+        Ok(()) => Status::Done,
+        Err(status) => status,
+    }
+}
+
+/// Whether a status has no line.
+fn is_silent(status: Status) -> bool
+    ensures silent { result ≡ true → (status ≡ Done) ⊎ (status ≡ WriteFault) }
+    ensures told { result ≡ false → (status ≢ Done) × (status ≢ WriteFault) }
+{
+    status == Status::Done || status == Status::WriteFault
+}
+
+/// Prints the line of a fault, where it has one.
 fn end<O: Sink>(out: &mut O, ended: Result<(), Status>) -> Status
-    ensures status { result ≡ status_of ended }
+    ensures status { result ≡ the_status ended }
     ensures ends { EndsAs (O.told out.old) (O.told out.new) (Rose (O.faults out.old) (O.faults out.new)) result }
     ensures writes { O.faults out.old ≤ O.faults out.new }
 {
-    match ended {
-        Ok(()) | Err(Status::Done) => Status::Done,
-        Err(Status::WriteFault) => Status::WriteFault,
-        Err(status) => {
-            print_fault(out, status);
-            status
-        }
+    let status = status_of(ended);
+    if is_silent(status) {
+        return status;
     }
+    print_fault(out, status);
+    status
 }
 
 /// Carries out what words say: `run`, `query`, `dump` or `parts`, on the store that the disk holds.

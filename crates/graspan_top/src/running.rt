@@ -128,8 +128,8 @@ pub(crate) fn run<I: Inputs, D: Disk, O: Sink>(
     ensures explained { RunExplains (record { told = I.told inputs.old; tells = D.tells; before = D.seen disk.old }) files.now.edges.now files.now.grammar.now (option_map (λ l. l.now) show.entry) (D.seen disk.new)
         (Rose (I.faults inputs.old files.now.edges.now) (I.faults inputs.new files.now.edges.now)) (Rose (I.faults inputs.old files.now.grammar.now) (I.faults inputs.new files.now.grammar.now)) (DiskRose (D.faults disk.old) (D.faults disk.new)) (Rose (O.faults out.old) (O.faults out.new)) (status_of result) }
     ensures printed { PrintsFirst D.tells (IsRunText (D.seen disk.new) (option_map (λ l. l.now) show.entry)) (O.told out.old) (O.told out.new) (status_of result) }
-    ensures exact { OnOk result (IsTrue D.tells → (g e : List ℕ) → I.told inputs.old files.now.grammar.now ≡ Some g → I.told inputs.old files.now.edges.now ≡ Some e → IsLeft (texts_of g e) (D.seen disk.old)
-        → AreExact (texts_of g e) (D.seen disk.new) × ((c : Contents) → D.may_leave disk.new c → AreExact (texts_of g e) c)) }
+    ensures exact { IsTrue D.tells → (g e : List ℕ) → I.told inputs.old files.now.grammar.now ≡ Some g → I.told inputs.old files.now.edges.now ≡ Some e → IsLeft (texts_of g e) (D.seen disk.old) → status_of result ≡ Done
+        → AreExact (texts_of g e) (D.seen disk.new) × ((c : Contents) → D.may_leave disk.new c → AreExact (texts_of g e) c) }
     ensures kept { I.told inputs.new ≡ I.told inputs.old }
     ensures others { (other : List ℕ) → I.faults inputs.old other ≤ I.faults inputs.new other }
     ensures later { D.faults disk.old ≤ D.faults disk.new }

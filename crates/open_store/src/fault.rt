@@ -7,32 +7,41 @@ use disk_model::{Failed, FormKind};
 use io_edge::{InputFile, InputKind};
 use manifest_switch::{OpenFault, SwitchFault};
 use std::alloc::{AllocError, AllocFailed};
+use thiserror::Error;
 
 /// Why a call of a store has no answer. After a fault the disk is opened again.
-#[derive(Debug, Drop)]
+///
+/// Its texts are for people: no clause and no line of the program rests on them.
+#[derive(Debug, Drop, Error)]
 pub enum StoreFault {
     /// A read of an input failed: the count of its name rose.
+    #[error("an input could not be read")]
     ReadFault,
     /// A call of the disk failed: its count rose.
+    #[error("a call of the disk failed")]
     DiskFault,
     /// An input's text has this first fault, in the line with this number, counted from 1.
+    #[error("line {line} of the input {file:?} has the fault {kind:?}")]
     InputFault {
         file: InputFile,
         line: u64,
         kind: InputKind,
     },
     /// An input isn't the text of the store. They differ first at this place, in bytes from 0.
+    #[error("the input {file:?} is not that of the store: they differ first at byte {place}")]
     OtherInput {
         file: InputFile,
         place: u64,
     },
     /// The bytes of a file of the store break a rule, at this place, in bytes from 0.
+    #[error("file {file} of the store is broken at byte {place}: {kind:?}")]
     BadStore {
         file: u32,
         place: u64,
         kind: FormKind,
     },
     /// Memory was wanted.
+    #[error("out of memory")]
     NoMemory,
 }
 

@@ -141,3 +141,18 @@ fn a_text_differs_where_it_ends_or_goes_on(rt: HostRuntime) -> Result<(), Fail> 
     assert_eq!(rt; comparison(rt.alloc(), b"S x b\n")?, Compared::At(2));
     Ok(())
 }
+
+#[test]
+fn a_fault_has_a_text(rt: HostRuntime) -> Result<(), Fail> {
+    let fault = StoreFault::BadStore {
+        file: 5,
+        place: 78,
+        kind: FormKind::Extra,
+    };
+    let text = format!(in rt.alloc(); "{fault}")?;
+    assert_eq!(rt;
+        text.as_str(),
+        "file 5 of the store is broken at byte 78: Extra"
+    );
+    Ok(())
+}

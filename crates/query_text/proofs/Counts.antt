@@ -1,6 +1,6 @@
 -- Edges are counted by their labels, and the counts printed.
 use Rattle.std.proofs.Common.{◌≡◌, ◌≢◌, ℕ, zero, suc, ◌+◌, ◌^◌, ◌<◌, ◌≤◌, List, [], ◌∷◌, ◌++◌, length, take, drop, get_or, refl, sym, subst, ap, ◌∙◌, arith, inl, inr, append_assoc, append-nil, take-append-drop, length-append, Option, Ok, Err}
-use Rattle.std.specs.Prelude.{slice_index_or, slice_set, count_by, IsTrue, Bool, true, false, cond, ◌==◌}
+use Rattle.std.specs.Prelude.{slice_index_or, slice_set, IsTrue, Bool, cond, ◌==◌}
 use Rattle.std.proofs.lemmas.Bool.{cases_eq, cases_lt}
 use Rattle.std.proofs.lemmas.Bool.Decides.{nat_tests}
 use Rattle.std.proofs.lemmas.List.{get_or-set_same, get_or-set_other, length-set, get_or_past, length-take, take_all, take_more}

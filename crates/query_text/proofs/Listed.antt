@@ -1,5 +1,5 @@
 -- The partitions that were read are those that the contents list.
-use Rattle.std.proofs.Common.{◌≡◌, ℕ, zero, suc, ◌+◌, ◌-◌, ◌≤◌, ◌<◌, List, [], ◌∷◌, ◌++◌, length, take, drop, get_or, Result, Ok, Err, Option, Some, None, refl, sym, subst, ap, ◌∙◌, append-nil, take-append-drop, arith}
+use Rattle.std.proofs.Common.{◌≡◌, ℕ, zero, suc, ◌+◌, ◌-◌, ◌≤◌, ◌<◌, List, [], ◌∷◌, ◌++◌, length, Result, Ok, Err, Option, Some, None, refl, sym, subst, ap, ◌∙◌, append-nil, arith}
 use Rattle.std.specs.Prelude.{Bool, IsTrue, IfOk, map, slice_index_or}
 use Rattle.std.specs.List.{flat_map}
 use Rattle.std.proofs.lemmas.Grind.{flat_map-append}
@@ -19,7 +19,7 @@ use Rattle.manifest.specs.declared.types.PartEntry.{PartEntry}
 use Rattle.manifest.specs.Spelling.{Cover}
 use Rattle.partition_file.specs.Spelling.{IsExpect, Part}
 use Rattle.partition_file.proofs.FileLaws.{one_part}
-use Rattle.store_law.specs.Listed.{AreListed, ends_of, part_of}
+use Rattle.store_law.specs.Listed.{ends_of, part_of}
 use Rattle.store_law.proofs.Intervals.{cut_from_cover, listed_partitions}
 use Rattle.open_store.specs.Store.{IsOpenStore, OpenStore, expect_in}
 use Rattle.open_store.proofs.Places.{cut_of_cover, place_of_lies}

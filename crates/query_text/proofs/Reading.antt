@@ -1,16 +1,16 @@
 -- Partitions that were read, one after the other.
-use Rattle.std.proofs.Common.{◌≡◌, ℕ, zero, suc, ◌+◌, ◌-◌, ◌*◌, ◌^◌, ◌<◌, ◌≤◌, List, [], ◌∷◌, ◌++◌, length, inl, inr, refl, sym, ap, ◌∙◌, subst, arith, length-append, append_assoc}
-use Rattle.std.specs.Prelude.{Bool, All, Contains, slice_index_or}
+use Rattle.std.proofs.Common.{◌≡◌, ℕ, zero, suc, ◌+◌, ◌*◌, ◌^◌, ◌<◌, ◌≤◌, List, [], ◌∷◌, ◌++◌, length, inl, inr, refl, sym, ap, ◌∙◌, subst, arith, length-append, append_assoc}
+use Rattle.std.specs.Prelude.{Bool, slice_index_or}
 use Rattle.std.proofs.lemmas.List.Elements.{All-contains}
 use Rattle.graph_words.specs.declared.types.Born.{Born}
 use Rattle.normal_form.proofs.NormalLemmas.{fresh_few}
 use Rattle.closing_machine.specs.State.{IsCut}
 use Rattle.closing_machine.specs.Machine.{high, low}
 use Rattle.closing_machine.specs.Parts.{all_edges}
-use Rattle.closing_machine.specs.Capacity.{IsInBox, capacity}
+use Rattle.closing_machine.specs.Capacity.{capacity}
 use Rattle.closing_machine.proofs.Room.{capacity_bounds}
 use Rattle.disk_model.specs.Disk.{Contents}
-use Rattle.partition_file.specs.Spelling.{FitsEdge, IsBornBefore}
+use Rattle.partition_file.specs.Spelling.{FitsEdge}
 use Rattle.store_law.specs.Listed.{ends_of, part_file}
 use Rattle.store_law.proofs.Intervals.{cut_from_cover}
 use Rattle.open_store.specs.Store.{IsOpenStore, OpenStore, expect_in}

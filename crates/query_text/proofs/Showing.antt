@@ -1,5 +1,5 @@
 -- The lines of edges, part by part.
-use Rattle.std.proofs.Common.{◌≡◌, ℕ, ◌+◌, ◌-◌, ◌^◌, ◌≤◌, ◌<◌, List, [], ◌∷◌, ◌++◌, length, Result, Ok, Err, Option, refl, sym, subst, ap, ◌∙◌, append_assoc, append-nil, take, drop, get_or, take-append-drop, arith, length-append}
+use Rattle.std.proofs.Common.{◌≡◌, ℕ, ◌+◌, ◌-◌, ◌^◌, ◌≤◌, ◌<◌, List, [], ◌∷◌, ◌++◌, length, Result, Ok, Err, Option, refl, sym, subst, ap, ◌∙◌, append-nil, take, drop, get_or, take-append-drop, arith, length-append}
 use Rattle.std.specs.Prelude.{Bool, IsTrue, IsErrAnd, IfOk}
 use Rattle.std.specs.List.{flat_map}
 use Rattle.std.proofs.lemmas.Grind.{flat_map-append}
@@ -229,21 +229,25 @@ module _ (s : OpenStore) (tells : Bool) (c : Contents) (T : Type 0) (text : List
   -- nothing was read or printed
   pub printed_none : (first wanted : ℕ) (f : AnswerFault) (a : Option (List ℕ)) (r : Result T AnswerFault) (P : T → Type 0) → r ≡ Err f → first ≤ length s.manifest.parts → IsPrinted s tells c first wanted text a a r [] × IfOk r P
   printed_none first wanted f a r P is within =
-      rw is
-      (record {
-        are_read = read_none s tells c first within;
-        few = omega arith;
-        all = tt;
-        taken = nothing_taken a (text []);
-      }, tt)
+      rw is (
+        record {
+          are_read = read_none s tells c first within;
+          few = omega arith;
+          all = tt;
+          taken = nothing_taken a (text []);
+        },
+        tt,
+      )
 
   -- the last page was not taken
   pub printed_short : (first wanted : ℕ) (f : AnswerFault) (a b d : Option (List ℕ)) (page held : List ℕ) (read : List (List Born)) (r : Result T AnswerFault) (P : T → Type 0) → r ≡ Err f → page ≡ [] → AreRead s tells c first read → length read ≤ wanted → HasGathered a page b held (text (all_edges read)) → AppendsPrefix b d held → IsPrinted s tells c first wanted text a d r read × IfOk r P
   printed_short first wanted f a b d page held read r P is blank are few gathered short =
-      rw is
-      (record {
-        are_read = are;
-        few = few;
-        all = tt;
-        taken = flushed {U = Unit {0}} {F = Unit {0}} a b d held (Err tt) (text (all_edges read)) (subst (λ (l : List ℕ). HasGathered a l b held (text (all_edges read))) blank gathered) short;
-      }, tt)
+      rw is (
+        record {
+          are_read = are;
+          few = few;
+          all = tt;
+          taken = flushed {U = Unit {0}} {F = Unit {0}} a b d held (Err tt) (text (all_edges read)) (subst (λ (l : List ℕ). HasGathered a l b held (text (all_edges read))) blank gathered) short;
+        },
+        tt,
+      )

@@ -18,5 +18,5 @@ pub use laws::{answers_stand_in_their_partition, edges_are_those_listed};
 pub use listing::{answers, dump};
 pub use tallying::tally;
 
-//TT#[cfg(test)]
-//TTmod tests;
+#[cfg(test)]
+mod tests;

@@ -3,7 +3,7 @@ use Rattle.command_words.specs.declared.fault.WordsFault.TheVariants.{Words}
 use Rattle.command_words.specs.Command.{Said, Reading}
 use Rattle.std.proofs.lemmas.Result.{IfErr-weaker, IfOk-weaker}
 use Rattle.clap.proofs.TakesLemmas.{passed_up}
-use Rattle.command_words.proofs.ReadingLemmas.{reads, says_of, uncut}
+use Rattle.command_words.proofs.ReadingLemmas.{reads, runs_within, says_of, uncut}
 use Rattle.command_words.proofs.reading.read_command.Goals as goal
 
 pub returns-in_err-cut-clause-words : goal.returns-in_err-cut-clause-words
@@ -15,6 +15,9 @@ pub returns-clause-reading : goal.returns-clause-reading
 returns-clause-reading c =
     let some : 0 < length c.args.words.now = search rules in
     IfOk-weaker c.read_named.result _ _ (λ command says. reads c.args.words.now _ c.in_ok-cut.cut _ some c.get.ensures (c.are_full.ensures.0 c.if-not-are_full.false) c.in_ok-cut.ensures.cut says) c.read_named.ensures.says
+
+pub returns-clause-within : goal.returns-clause-within
+returns-clause-within c = IfOk-weaker c.read_named.result _ _ (λ command says. runs_within _ c.in_ok-cut.cut.options c.in_ok-cut.cut.plain _ says) c.read_named.ensures.says
 
 pub returns-clause-words : goal.returns-clause-words
 returns-clause-words c =

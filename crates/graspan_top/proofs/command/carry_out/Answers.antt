@@ -7,18 +7,16 @@ use Rattle.command_words.specs.Command.{Said, run, said}
 use Rattle.graspan_top.specs.Command.{Explains}
 use Rattle.graspan_top.specs.Given.{Given}
 use Rattle.graspan_top.specs.Printing.{status_of}
-use Rattle.graspan_top.proofs.ExplainLemmas.{map_ok}
 use Rattle.graspan_top.proofs.command.carry_out.Goals as goal
 
 pub returns-in-Run-clause-exact : goal.returns-in-Run-clause-exact
 returns-in-Run-clause-exact g c =
-    map_ok c.run.result _ _ c.run.ensures.exact
-    (λ exact edges grammar options show same tells gt et tg te left.
+    λ edges grammar options show same tells gt et tg te left done.
     let is : said c.args.command ≡ run c.in-Run.edges.now c.in-Run.grammar.now c.in-Run.options (option_map (λ s. s.now) c.in-Run.show) = ap said c.in-Run.is in
     let both : run c.in-Run.edges.now c.in-Run.grammar.now c.in-Run.options (option_map (λ s. s.now) c.in-Run.show) ≡ run edges grammar options show = sym is ∙ same in
     let ee : c.in-Run.edges.now ≡ edges = cc in
     let ge : c.in-Run.grammar.now ≡ grammar = cc in
-    exact tells gt et (ap (g.I.Inputs.told c.args.inputs.now) ge ∙ tg) (ap (g.I.Inputs.told c.args.inputs.now) ee ∙ te) left)
+    c.run.ensures.exact tells gt et (ap (g.I.Inputs.told c.args.inputs.now) ge ∙ tg) (ap (g.I.Inputs.told c.args.inputs.now) ee ∙ te) left done
 
 pub returns-in-Query-clause-explained : goal.returns-in-Query-clause-explained
 returns-in-Query-clause-explained g c =

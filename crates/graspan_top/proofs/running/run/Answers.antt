@@ -4,10 +4,11 @@ use Rattle.disk_model.specs.Disk.{Contents, Rose as DiskRose}
 use Rattle.io_edge.specs.Devices.{Rose}
 use Rattle.store_law.specs.Listed.{AreExact}
 use Rattle.store.specs.Import.{texts_of}
+use Rattle.graspan_top.specs.declared.status.Status.TheVariants.{Done}
 use Rattle.graspan_top.specs.Given.{Given}
 use Rattle.graspan_top.specs.Printing.{PrintsFirst, status_of}
 use Rattle.graspan_top.specs.Run.{IsRunText, RunExplains}
-use Rattle.graspan_top.proofs.ExplainLemmas.{explains_later, on_ok, on_status, rose_later, show_explains}
+use Rattle.graspan_top.proofs.ExplainLemmas.{explains_later, on_status, rose_later, show_explains}
 use Rattle.graspan_top.proofs.PrintLemmas.{nothing_first}
 use Rattle.graspan_top.proofs.ReadyLemmas.{exact_end}
 use Rattle.graspan_top.proofs.running.run.Goals as goal
@@ -64,9 +65,13 @@ returns-clause-exact g c =
     let grammar : List ℕ = c.args.files.now.grammar.now in
     let mid = c.closed_store.new.disk in
     let looks = c.show_run.ensures.looks in
-    on_ok c.show_run.result _
-    (λ tells gt et tg te left.
+    λ tells gt et tg te left done.
     let both = exact_end x edges grammar (D.seen mid) (D.may_leave mid) c.in_ok-store.store c.in_ok-store.ensures.ready c.in_ok-store.ensures.done tells gt et tg te left in (
       subst (λ (k : Contents). AreExact (texts_of gt et) k) (sym looks.same_seen) both.0,
       λ image now. both.1 image (looks.no_more image now),
-    ))
+    )
+
+pub returns-in_err-store-clause-exact : goal.returns-in_err-store-clause-exact
+returns-in_err-store-clause-exact g c =
+    λ tells gt et tg te left done.
+    absurd (on_status c.from_residual.result c.in_err-store.field-0.0 (λ s. s ≡ Done → ⊥) c.from_residual.ensures.1 c.in_err-store.ensures.fails done)

@@ -1,4 +1,3 @@
-use Rattle.std.proofs.Common.{◌≡◌, ℕ, length}
 use Rattle.query_text.specs.Answered.{HasAnswerCause, IsBlamed, IsPrinted, first_asked, wanted}
 use Rattle.query_text.specs.Text.{answers_text}
 use Rattle.query_text.proofs.Listed.{answers_counted, answers_listed, at_asked}

@@ -1,6 +1,5 @@
-use Rattle.std.proofs.Common.{◌≡◌, ◌<◌, ℕ, ◌+◌, sym, subst, arith}
+use Rattle.std.proofs.Common.{◌<◌, ℕ, subst, arith}
 use Rattle.std.specs.Prelude.{Option, IfSome}
-use Rattle.query_text.specs.Answered.{first_asked, wanted}
 use Rattle.query_text.proofs.Listed.{asked_below, asked_place}
 use Rattle.query_text.proofs.listing.partitions_of.Goals as goal
 

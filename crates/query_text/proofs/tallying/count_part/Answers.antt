@@ -34,8 +34,9 @@ returns-clause-tallied g c =
     let s = c.args.store.now in
     let seen = D.seen c.args.disk.now in
     let t = c.requires.tallied in
-    let edges = c.in_ok-part.part.edges in
-    (t.0 ++ edges ∷ [],
-     next_read s D.tells seen c.args.i t.0 t.1 t.2 c.requires.i edges c.in_ok-part.ensures.read,
-     next_many s D.tells seen c.args.i t.0 t.1 t.2 c.requires.i edges,
-     next_tallied s D.tells seen c.args.i t.0 t.1 t.2 c.requires.i edges c.edges.result.now c.count_edges.new.counts.items c.edges.ensures.edges (c.count_edges.ensures (length s.manifest.labels) (all_edges t.0) t.3))
+    let edges = c.in_ok-part.part.edges in (
+      t.0 ++ edges ∷ [],
+      next_read s D.tells seen c.args.i t.0 t.1 t.2 c.requires.i edges c.in_ok-part.ensures.read,
+      next_many s D.tells seen c.args.i t.0 t.1 t.2 c.requires.i edges,
+      next_tallied s D.tells seen c.args.i t.0 t.1 t.2 c.requires.i edges c.edges.result.now c.count_edges.new.counts.items c.edges.ensures.edges (c.count_edges.ensures (length s.manifest.labels) (all_edges t.0) t.3),
+    )

@@ -1,7 +1,6 @@
-use Rattle.std.proofs.Common.{◌≡◌, ◌∙◌, ℕ, List, arith, subst, sym}
+use Rattle.std.proofs.Common.{◌∙◌, ℕ, List, arith, subst}
 use Rattle.std.specs.Prelude.{slice_index_or}
 use Rattle.std.proofs.lemmas.Result.{err_from_is_err_and}
-use Rattle.query_text.specs.Text.{label_count}
 use Rattle.query_text.specs.Shown.{HasGathered}
 use Rattle.query_text.proofs.Counts.{line_failed, line_gathered, lines_all}
 use Rattle.query_text.proofs.tallying.put_lines.Goals as goal

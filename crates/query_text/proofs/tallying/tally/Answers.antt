@@ -1,5 +1,4 @@
-use Rattle.std.proofs.Common.{ℕ, List, [], length, ap, sym, subst, arith}
-use Rattle.std.specs.Prelude.{IfOk}
+use Rattle.std.proofs.Common.{ℕ, List, [], length, sym, subst, arith}
 use Rattle.graph_words.specs.declared.types.Born.{Born}
 use Rattle.io_edge.specs.Devices.{Takes}
 use Rattle.closing_machine.specs.Parts.{all_edges}

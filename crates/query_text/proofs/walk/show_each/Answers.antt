@@ -1,8 +1,6 @@
-use Rattle.std.proofs.Common.{◌≡◌, ℕ, [], ◌++◌, ◌+◌, ◌-◌, arith, subst}
-use Rattle.std.specs.Prelude.{Ok}
+use Rattle.std.proofs.Common.{◌≡◌, ℕ, [], ◌++◌, ◌+◌, ◌-◌, arith}
 use Rattle.open_store.proofs.Looking.{looks_same, looks_then}
 use Rattle.query_text.specs.Answered.{IsBlamed}
-use Rattle.query_text.specs.Shown.{IsGathered}
 use Rattle.query_text.proofs.Showing.{cause_handed_on, gathered_fits, gathered_none, handed_on, walk_blames, walk_failed, walk_on}
 use Rattle.query_text.proofs.walk.show_each.Goals as goal
 
@@ -27,9 +25,10 @@ returns-in_err-shown-clause-gathered g c =
     let f = c.in_err-shown.field-0.0 in
     let r = c.from_residual.result in
     let inv = c.loop-i.invariant in
-    let next = c.in_err-shown.ensures.gathered in
-    (inv.gathered.0 ++ next.0,
-     walk_failed c.args.store.now D.tells c.args.show.now (D.seen c.args.disk.now) (D.seen c.loop-i.disk) c.args.first c.loop-i.i c.args.end c.loop-i.shown f (told c.args.sink.now) (told c.loop-i.sink) (told c.show_part.new.sink) c.args.page.now c.loop-i.page c.show_part.new.page inv.gathered.0 next.0 r inv.looks.same_seen inv.from c.loop-i-test.true (handed_on ℕ r f c.from_residual.ensures.1) inv.gathered.1 next.1)
+    let next = c.in_err-shown.ensures.gathered in (
+      inv.gathered.0 ++ next.0,
+      walk_failed c.args.store.now D.tells c.args.show.now (D.seen c.args.disk.now) (D.seen c.loop-i.disk) c.args.first c.loop-i.i c.args.end c.loop-i.shown f (told c.args.sink.now) (told c.loop-i.sink) (told c.show_part.new.sink) c.args.page.now c.loop-i.page c.show_part.new.page inv.gathered.0 next.0 r inv.looks.same_seen inv.from c.loop-i-test.true (handed_on ℕ r f c.from_residual.ensures.1) inv.gathered.1 next.1,
+    )
 
 pub returns-in_err-shown-clause-cause : goal.returns-in_err-shown-clause-cause
 returns-in_err-shown-clause-cause g c =

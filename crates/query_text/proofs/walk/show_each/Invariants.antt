@@ -1,4 +1,4 @@
-use Rattle.std.proofs.Common.{◌≡◌, ◌-◌, ◌≤◌, List, length}
+use Rattle.std.proofs.Common.{◌-◌, ◌≤◌, List}
 use Rattle.std.specs.Prelude.{Ok}
 use Rattle.graph_words.specs.declared.types.Born.{Born}
 use Rattle.manifest_switch.specs.Looks.{OnlyLooks}

@@ -20,13 +20,15 @@ pub returns-in_err-shown-clause-gathered : goal.returns-in_err-shown-clause-gath
 returns-in_err-shown-clause-gathered g c =
     let D = g.D.Disk in
     let told = g.O.Sink.told in
-    let r = c.from_residual-in_err-shown.result in
-    (c.in_ok-part.part.edges ∷ [],
-     gathered_unwritten c.args.store.now D.tells (D.seen c.args.disk.now) c.args.show.now c.args.i c.in_ok-part.part.edges c.edges.result.now c.manifest.result.now WriteFault (told c.args.sink.now) (told c.put_edges.new.sink) c.args.page.now c.put_edges.new.page r c.requires c.in_ok-part.ensures.read c.manifest.ensures.manifest c.edges.ensures.edges (handed_on ℕ r WriteFault c.from_residual-in_err-shown.ensures.1) c.in_err-shown.ensures.gathered)
+    let r = c.from_residual-in_err-shown.result in (
+      c.in_ok-part.part.edges ∷ [],
+      gathered_unwritten c.args.store.now D.tells (D.seen c.args.disk.now) c.args.show.now c.args.i c.in_ok-part.part.edges c.edges.result.now c.manifest.result.now WriteFault (told c.args.sink.now) (told c.put_edges.new.sink) c.args.page.now c.put_edges.new.page r c.requires c.in_ok-part.ensures.read c.manifest.ensures.manifest c.edges.ensures.edges (handed_on ℕ r WriteFault c.from_residual-in_err-shown.ensures.1) c.in_err-shown.ensures.gathered,
+    )
 
 pub returns-clause-gathered : goal.returns-clause-gathered
 returns-clause-gathered g c =
     let D = g.D.Disk in
-    let told = g.O.Sink.told in
-    (c.in_ok-part.part.edges ∷ [],
-     gathered_one c.args.store.now D.tells (D.seen c.args.disk.now) c.args.show.now c.args.i c.in_ok-part.part.edges c.edges.result.now c.manifest.result.now (told c.args.sink.now) (told c.put_edges.new.sink) c.args.page.now c.put_edges.new.page c.in_ok-shown.shown c.requires c.in_ok-part.ensures.read c.manifest.ensures.manifest c.edges.ensures.edges c.in_ok-shown.ensures.gathered c.in_ok-shown.ensures.number)
+    let told = g.O.Sink.told in (
+      c.in_ok-part.part.edges ∷ [],
+      gathered_one c.args.store.now D.tells (D.seen c.args.disk.now) c.args.show.now c.args.i c.in_ok-part.part.edges c.edges.result.now c.manifest.result.now (told c.args.sink.now) (told c.put_edges.new.sink) c.args.page.now c.put_edges.new.page c.in_ok-shown.shown c.requires c.in_ok-part.ensures.read c.manifest.ensures.manifest c.edges.ensures.edges c.in_ok-shown.ensures.gathered c.in_ok-shown.ensures.number,
+    )
