@@ -4,11 +4,10 @@ ghost use Rattle.std.proofs.lemmas.Bool.{false≢true};
 ghost use Rattle.disk_model.specs.Disk.{HasFailed};
 
 use disk_model::{Disk, Failed};
-use std::fs;
 use std::fs::{File, OpenFile, OpenOptions};
-use std::io;
 use std::io::{ErrorKind, Read, Seek, SeekFrom, Write};
 use std::rt::Files;
+use std::{fs, io};
 
 /// The number of files that a disk has.
 const FILES: usize = 1024;

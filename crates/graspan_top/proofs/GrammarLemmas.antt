@@ -22,4 +22,3 @@ file_fault file value f (inr p) first =
     let h = long_text_has_fault 16777216 rule_fault value rest (let l = p.past in omega arith) in
     let all : value ++ rest ≡ file = ap (λ t. t ++ rest) p.front ∙ take-append-drop (length value) file in
     ap grammar_fault (sym all) ∙ h.there ∙ sym h.here ∙ first
-

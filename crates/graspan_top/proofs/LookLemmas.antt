@@ -42,12 +42,12 @@ module _ (names : List (List ℕ)) (label : List ℕ) where
   pub one_number : (k l : ℕ) → IsTable names → slice_get names k ≡ Some label → slice_get names l ≡ Some label → k ≡ l
   one_number k l table one other =
       elim (cases_order k l) [
-        inl same ↦ same
-      | inr differ ↦
-          elim differ [
-            inl below ↦ absurd (there k l table below one other)
-          | inr above ↦ absurd (there l k table above other one)
-          ]
+        | inl same ↦ same
+        | inr differ ↦
+            elim differ [
+              | inl below ↦ absurd (there k l table below one other)
+              | inr above ↦ absurd (there l k table above other one)
+            ]
       ]
 
   -- a label that has a number is there

@@ -84,11 +84,7 @@ pub(crate) fn parts<D: Disk, O: Sink>(
 }
 
 /// Prints the edges of a store without work left.
-pub(crate) fn dump<D: Disk, O: Sink>(
-    alloc: Global,
-    disk: &mut D,
-    out: &mut O,
-) -> Result<(), Status>
+pub(crate) fn dump<D: Disk, O: Sink>(alloc: Global, disk: &mut D, out: &mut O) -> Result<(), Status>
     ensures explained { (told : List ℕ → Option (List ℕ)) → DumpExplains (record { told = told; tells = D.tells; before = D.seen disk.old }) (DiskRose (D.faults disk.old) (D.faults disk.new)) (Rose (O.faults out.old) (O.faults out.new)) (status_of result) }
     ensures printed { PrintsFirst D.tells (IsDumpText (D.seen disk.old)) (O.told out.old) (O.told out.new) (status_of result) }
     ensures looks { OnlyLooks D.seen D.may_leave D.moment D.left_since disk.old disk.new }
@@ -125,7 +121,8 @@ fn count_line(count: u64) -> ArrayVec<u8, 32>
     let mut line = ArrayVec::new();
     let mut buffer = Buffer::new();
     line.try_extend_from_slice(b"count ").unwrap();
-    line.try_extend_from_slice(buffer.format(count).as_bytes()).unwrap();
+    line.try_extend_from_slice(buffer.format(count).as_bytes())
+        .unwrap();
     line.try_extend_from_slice(b"\n").unwrap();
     line
 }

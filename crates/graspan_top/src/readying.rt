@@ -42,7 +42,14 @@ fn compare<I: Inputs, D: Disk>(
     ensures others { (other : List ℕ) → I.faults inputs.old other ≤ I.faults inputs.new other }
     ensures later { D.faults disk.old ≤ D.faults disk.new }
 {
-    same_input(alloc, inputs, files.grammar, disk, store, InputFile::Grammar)?;
+    same_input(
+        alloc,
+        inputs,
+        files.grammar,
+        disk,
+        store,
+        InputFile::Grammar,
+    )?;
     same_input(alloc, inputs, files.edges, disk, store, InputFile::Edges)
 }
 

@@ -7,6 +7,7 @@ use std::test::Fail;
 
 /// A path of two edges, and a grammar that joins them.
 const EDGES: &[u8] = b"0 1 a\n1 2 b\n";
+
 const GRAMMAR: &[u8] = b"S a b\n";
 
 const RUN: [&str; 5] = ["run", "e", "g", "--show", "S"];
@@ -59,11 +60,7 @@ fn says(
 }
 
 /// The same over the path of two edges.
-fn path_says(
-    alloc: Global,
-    disk: &mut MemDisk,
-    words: &[&str],
-) -> Result<(MemSink, u8), Fail> {
+fn path_says(alloc: Global, disk: &mut MemDisk, words: &[&str]) -> Result<(MemSink, u8), Fail> {
     says(alloc, disk, EDGES, GRAMMAR, words)
 }
 
@@ -134,18 +131,46 @@ fn a_finished_store_is_asked(rt: HostRuntime) -> Result<(), Fail> {
     let edges = b"0 0 (\n0 1 )\n1 0 )\n".as_slice();
     let grammar = b"S\nS ( S ) S\n".as_slice();
     for (words, printed, code) in [
-        (["query", "S", "0"].as_slice(), b"fault no store\n".as_slice(), 9),
+        (
+            ["query", "S", "0"].as_slice(),
+            b"fault no store\n".as_slice(),
+            9,
+        ),
         (["dump"].as_slice(), b"fault no store\n", 9),
         (["parts"].as_slice(), b"fault no store\n", 9),
-        (["run", "e", "g", "--show", "Z"].as_slice(), b"fault not known\n", 11),
-        (["query", "S", "0"].as_slice(), b"answer 0 0\nanswer 0 1\ncount 2\n", 0),
+        (
+            ["run", "e", "g", "--show", "Z"].as_slice(),
+            b"fault not known\n",
+            11,
+        ),
+        (
+            ["query", "S", "0"].as_slice(),
+            b"answer 0 0\nanswer 0 1\ncount 2\n",
+            0,
+        ),
         (["query", "S", "1", "0"].as_slice(), b"count 0\n", 0),
-        (["query", "S", "1", "1"].as_slice(), b"answer 1 1\ncount 1\n", 0),
-        (["dump"].as_slice(), b"0 0 S\n0 1 S\n0 0 (\n0 1 )\n1 1 S\n1 0 )\n", 0),
-        (["parts"].as_slice(), b"vertices 2\npart 0 0 2 13\nfinished\n", 0),
+        (
+            ["query", "S", "1", "1"].as_slice(),
+            b"answer 1 1\ncount 1\n",
+            0,
+        ),
+        (
+            ["dump"].as_slice(),
+            b"0 0 S\n0 1 S\n0 0 (\n0 1 )\n1 1 S\n1 0 )\n",
+            0,
+        ),
+        (
+            ["parts"].as_slice(),
+            b"vertices 2\npart 0 0 2 13\nfinished\n",
+            0,
+        ),
         (["query", "Z", "0"].as_slice(), b"fault not known\n", 11),
         (["query", "S", "2"].as_slice(), b"fault not known\n", 11),
-        (["query", "S", "0", "2"].as_slice(), b"fault not known\n", 11),
+        (
+            ["query", "S", "0", "2"].as_slice(),
+            b"fault not known\n",
+            11,
+        ),
         (["query", "S"].as_slice(), b"fault words\n", 1),
     ] {
         let (out, status) = says(alloc, &mut disk, edges, grammar, words)?;
@@ -237,7 +262,10 @@ fn a_thousand_labels_are_there(rt: HostRuntime) -> Result<(), Fail> {
     let mut disk = MemDisk::new(alloc)?;
     let edges = many_labels(alloc, 1000)?;
     let (out, code) = says(alloc, &mut disk, &edges, b"", &["run", "e", "g"])?;
-    assert_eq!(rt; out.bytes(), b"fault input edges 1001 TooManyLabels\n".as_slice());
+    assert_eq!(rt;
+        out.bytes(),
+        b"fault input edges 1001 TooManyLabels\n".as_slice()
+    );
     assert_eq!(rt; code, 2);
     let edges = many_labels(alloc, 999)?;
     let (_, code) = says(alloc, &mut disk, &edges, b"", &["run", "e", "g"])?;
@@ -273,7 +301,10 @@ fn a_failing_write_is_told_and_the_store_is_finished(rt: HostRuntime) -> Result<
     assert_eq!(rt; status, Status::WriteFault);
     assert_eq!(rt; out.bytes(), b"".as_slice());
     let (out, code) = path_says(alloc, &mut disk, &["parts"])?;
-    assert_eq!(rt; out.bytes(), b"vertices 3\npart 0 0 3 3\nfinished\n".as_slice());
+    assert_eq!(rt;
+        out.bytes(),
+        b"vertices 3\npart 0 0 3 3\nfinished\n".as_slice()
+    );
     assert_eq!(rt; code, 0);
     Ok(())
 }
@@ -295,7 +326,11 @@ fn resumes_after(alloc: Global, call: u64, choice: CrashChoice) -> Result<bool, 
 fn a_stopped_run_is_resumed(rt: HostRuntime) -> Result<(), Fail> {
     let alloc = rt.alloc();
     for call in [0, 5, 10, 15, 20, 25, 30] {
-        for choice in [CrashChoice::AsRead, CrashChoice::AsSynced, CrashChoice::Drawn(call)] {
+        for choice in [
+            CrashChoice::AsRead,
+            CrashChoice::AsSynced,
+            CrashChoice::Drawn(call),
+        ] {
             assert!(rt; resumes_after(alloc, call, choice)?);
         }
     }
