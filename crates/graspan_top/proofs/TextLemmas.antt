@@ -1,5 +1,5 @@
 -- What the commands that only read a store print.
-use Rattle.std.proofs.Common.{◌≡◌, ◌⊎◌, inl, inr, ℕ, zero, suc, ◌+◌, ◌<◌, ◌≤◌, Bool, true, List, [], ◌∷◌, ◌++◌, length, Option, Some, Ok, Err, refl, sym, ap, subst, ◌∙◌, append-nil, arith}
+use Rattle.std.proofs.Common.{◌≡◌, ◌⊎◌, inl, inr, ℕ, ◌+◌, ◌<◌, Bool, List, [], ◌∷◌, ◌++◌, length, Option, Some, Ok, Err, refl, sym, ap, subst, ◌∙◌, append-nil, arith}
 use Rattle.std.specs.Prelude.{IsTrue, IsErrAnd, Result, slice_get, slice_index_or}
 use Rattle.std.specs.Io.KnownBytes.{Appends}
 use Rattle.io_edge.specs.Devices.{AppendsPrefix}
@@ -15,13 +15,11 @@ use Rattle.partition_file.specs.Spelling.{Fits, IsExpect, Part}
 use Rattle.partition_file.proofs.FileLaws.{one_part}
 use Rattle.dest_map.specs.Table.{Comes, counts_of}
 use Rattle.pair_sched.specs.Marks.{joined_of, newest_of}
-use Rattle.pair_sched.specs.Picking.{IsClean, IsLeastDirty}
+use Rattle.pair_sched.specs.Picking.{IsLeastDirty}
 use Rattle.manifest.specs.declared.types.Manifest.{Manifest}
-use Rattle.manifest_switch.specs.declared.slot.Slot.{Slot}
 use Rattle.manifest_switch.specs.declared.slot.Found.{Found}
 use Rattle.manifest_switch.specs.declared.slot.Found.TheVariants.{At, Blank}
 use Rattle.manifest_switch.specs.declared.slot.OpenFault.{OpenFault}
-use Rattle.manifest_switch.specs.Slots.{current_of}
 use Rattle.store_law.specs.Listed.{AreListed, ends_of, expect_of, part_file, part_of}
 use Rattle.store_law.specs.Left.{IsDone}
 use Rattle.store_law.proofs.Intervals.{cut_from_cover}
@@ -165,13 +163,15 @@ module _ (s : OpenStore) (tells : Bool) (label : LabelId) (from : ℕ) (to : Opt
   -- the answers failed
   pub query_stopped : {T : Type 0} (c : Contents) (f : AnswerFault) (old new : Option (List ℕ)) (read : List (List Born)) (r : Result T AnswerFault) → IsErrAnd r (λ y. y ≡ f) → IsPrinted {T = ℕ} s tells c asked 1 lines old new (Err f) read → IsTaken c old new r read
   query_stopped {T} c f old new read r is p =
-      rw (handed_on T r f is)
-      (record {
-        are_read = p.are_read;
-        few = p.few;
-        all = tt;
-        taken = AppendsPrefix-more old new (lines (all_edges read)) (count_line (number (all_edges read))) p.taken;
-      }, none_read read old new p.taken)
+      rw (handed_on T r f is) (
+        record {
+          are_read = p.are_read;
+          few = p.few;
+          all = tt;
+          taken = AppendsPrefix-more old new (lines (all_edges read)) (count_line (number (all_edges read))) p.taken;
+        },
+        none_read read old new p.taken,
+      )
 
   module _ (c : Contents) (n : ℕ) (old mid new : Option (List ℕ)) (line : List ℕ) (read : List (List Born)) (p : IsPrinted {T = ℕ} s tells c asked 1 lines old mid (Ok n) read) (is_number : n ≡ number (all_edges read)) (is_line : line ≡ count_line n) where
     is_last : line ≡ count_line (number (all_edges read))
@@ -181,23 +181,27 @@ module _ (s : OpenStore) (tells : Bool) (label : LabelId) (from : ℕ) (to : Opt
     pub query_unwritten : {T : Type 0} (r : Result T AnswerFault) → IsErrAnd r (λ y. y ≡ answers.WriteFault) → AppendsPrefix mid new line → IsTaken c old new r read
     query_unwritten {T} r is h =
         let last = subst (λ (l : List ℕ). AppendsPrefix mid new l) is_last h in
-        rw (handed_on T r answers.WriteFault is)
-        (record {
-          are_read = p.are_read;
-          few = p.few;
-          all = tt;
-          taken = takes_more {T = Unit {0}} {E = Unit {0}} old mid new (Err tt) (lines (all_edges read)) (count_line (number (all_edges read))) p.taken last;
-        }, λ none. absurd (omega (arith, none, p.all)))
+        rw (handed_on T r answers.WriteFault is) (
+          record {
+            are_read = p.are_read;
+            few = p.few;
+            all = tt;
+            taken = takes_more {T = Unit {0}} {E = Unit {0}} old mid new (Err tt) (lines (all_edges read)) (count_line (number (all_edges read))) p.taken last;
+          },
+          λ none. absurd (omega (arith, none, p.all)),
+        )
 
     pub query_written : Appends mid new line → IsTaken {T = Unit {0}} c old new (Ok tt) read
     query_written h =
-        let last = subst (λ (l : List ℕ). Appends mid new l) is_last h in
-        (record {
-          are_read = p.are_read;
-          few = p.few;
-          all = p.all;
-          taken = takes_more {T = Unit {0}} {E = Unit {0}} old mid new (Ok tt) (lines (all_edges read)) (count_line (number (all_edges read))) p.taken last;
-        }, λ none. absurd (omega (arith, none, p.all)))
+        let last = subst (λ (l : List ℕ). Appends mid new l) is_last h in (
+          record {
+            are_read = p.are_read;
+            few = p.few;
+            all = p.all;
+            taken = takes_more {T = Unit {0}} {E = Unit {0}} old mid new (Ok tt) (lines (all_edges read)) (count_line (number (all_edges read))) p.taken last;
+          },
+          λ none. absurd (omega (arith, none, p.all)),
+        )
 
   -- what of the contents is read, where they are told
   module _ (o : IsOpenStore s) (c : Contents) (held : IsHeld s c) (t : IsTrue tells) where

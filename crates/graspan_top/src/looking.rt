@@ -1,16 +1,14 @@
 //! The commands that only read a store: `query`, `dump` and `parts`.
-ghost use Rattle.std.specs.Prelude.{◌≡◌, ◌≤◌, ◌<◌, ◌++◌, [], ℕ, List, Option, Some, IsTrue, IfErr, IfOk, IfSome, OnOk, OnErr, length, slice_get};
-ghost use Rattle.io_edge.specs.Devices.{AppendsPrefix, Rose, Takes};
-ghost use Rattle.disk_model.specs.Disk.{Contents, Rose as DiskRose};
+ghost use Rattle.std.specs.Prelude.{◌≡◌, ◌≤◌, ◌<◌, ◌++◌, [], ℕ, List, Option, Some, IsTrue, IfErr, IfOk, OnOk, length};
+ghost use Rattle.io_edge.specs.Devices.{AppendsPrefix, Rose};
+ghost use Rattle.disk_model.specs.Disk.{Rose as DiskRose};
 ghost use Rattle.graph_words.specs.declared.types.Born.{Born as ABorn};
-ghost use Rattle.closing_machine.specs.Parts.{all_edges};
 ghost use Rattle.manifest.specs.Spelling.{Fits};
 ghost use Rattle.manifest_switch.specs.Looks.{OnlyLooks};
 ghost use Rattle.store_law.specs.Left.{IsDone};
 ghost use Rattle.open_store.specs.Store.{IsHeld};
 ghost use Rattle.query_text.specs.Text.{answers_in, answers_text};
-ghost use Rattle.query_text.specs.Answered.{HasAnswerCause, IsBlamed, IsPrinted, first_asked, wanted};
-ghost use Rattle.graspan_top.specs.Given.{Given as AGiven};
+ghost use Rattle.query_text.specs.Answered.{HasAnswerCause, IsBlamed, IsPrinted, first_asked};
 ghost use Rattle.graspan_top.specs.declared.status.Status.TheVariants.{NotKnown, Unfinished};
 ghost use Rattle.graspan_top.specs.Looking.{AreVerticesOf, DumpExplains, IsDumpText, IsPartsText, IsQueryText, IsUnfinished, PartsExplains, QueryExplains, count_line as the_count_line, none_undone};
 ghost use Rattle.graspan_top.specs.Printing.{PrintsFirst, status_of};
@@ -84,11 +82,7 @@ pub(crate) fn parts<D: Disk, O: Sink>(
 }
 
 /// Prints the edges of a store without work left.
-pub(crate) fn dump<D: Disk, O: Sink>(
-    alloc: Global,
-    disk: &mut D,
-    out: &mut O,
-) -> Result<(), Status>
+pub(crate) fn dump<D: Disk, O: Sink>(alloc: Global, disk: &mut D, out: &mut O) -> Result<(), Status>
     ensures explained { (told : List ℕ → Option (List ℕ)) → DumpExplains (record { told = told; tells = D.tells; before = D.seen disk.old }) (DiskRose (D.faults disk.old) (D.faults disk.new)) (Rose (O.faults out.old) (O.faults out.new)) (status_of result) }
     ensures printed { PrintsFirst D.tells (IsDumpText (D.seen disk.old)) (O.told out.old) (O.told out.new) (status_of result) }
     ensures looks { OnlyLooks D.seen D.may_leave D.moment D.left_since disk.old disk.new }
@@ -125,7 +119,8 @@ fn count_line(count: u64) -> ArrayVec<u8, 32>
     let mut line = ArrayVec::new();
     let mut buffer = Buffer::new();
     line.try_extend_from_slice(b"count ").unwrap();
-    line.try_extend_from_slice(buffer.format(count).as_bytes()).unwrap();
+    line.try_extend_from_slice(buffer.format(count).as_bytes())
+        .unwrap();
     line.try_extend_from_slice(b"\n").unwrap();
     line
 }
