@@ -1,6 +1,6 @@
 -- Why a command that only reads answers as it does.
-use Rattle.std.proofs.Common.{◌≡◌, ◌⊎◌, inl, inr, ℕ, ◌+◌, ◌<◌, ◌≤◌, Bool, true, List, [], ◌∷◌, ◌++◌, length, Option, None, Some, Ok, Err, refl, sym, ap, subst, ◌∙◌, arith}
-use Rattle.std.specs.Prelude.{IsTrue, IfErr, IsErrAnd, Result, Contains, slice_get, slice_index_or}
+use Rattle.std.proofs.Common.{◌≡◌, inl, inr, ℕ, ◌<◌, ◌≤◌, Bool, List, [], Option, None, Some, Ok, Err, sym, ap, subst, ◌∙◌, arith}
+use Rattle.std.specs.Prelude.{IsTrue, IfErr, IsErrAnd, Result, Contains, slice_get}
 use Rattle.std.proofs.lemmas.Bool.{cases_order}
 use Rattle.std.proofs.lemmas.Option.{get_or_from_slice_get, slice_get_within}
 use Rattle.std.proofs.lemmas.List.Elements.{Contains-get_or}
@@ -11,20 +11,16 @@ use Rattle.query_text.specs.Text.{answers_text}
 use Rattle.disk_model.specs.Disk.{Contents, Rose as DiskRose}
 use Rattle.disk_model.specs.declared.form_kind.FormKind.{FormKind}
 use Rattle.manifest.specs.declared.types.Manifest.{Manifest}
-use Rattle.manifest_switch.specs.Slots.{current_of}
-use Rattle.open_store.specs.declared.fault.StoreFault.{StoreFault}
 use Rattle.open_store.specs.declared.fault.StoreFault.TheVariants as stores
-use Rattle.open_store.specs.Answers.{HasDiskCause}
-use Rattle.open_store.specs.Opening.{IsBadStore}
 use Rattle.open_store.specs.Store.{IsHeld, OpenStore}
 use Rattle.query_text.specs.declared.fault.AnswerFault.{AnswerFault}
 use Rattle.query_text.specs.declared.fault.AnswerFault.TheVariants as answers
 use Rattle.query_text.specs.Answered.{HasAnswerCause, HasWriteCause, IsBlamed}
 use Rattle.query_text.proofs.Showing.{cause_later}
 use Rattle.io_edge.specs.Devices.{Rose}
-use Rattle.graspan_top.specs.Faults.{of_answer, of_store}
+use Rattle.graspan_top.specs.Faults.{of_answer}
 use Rattle.graspan_top.specs.Given.{Given}
-use Rattle.graspan_top.specs.Looking.{HasCurrent, LookBlames, LookExplains, Wants, loading, opening}
+use Rattle.graspan_top.specs.Looking.{HasCurrent, LookExplains, Wants, loading, opening}
 use Rattle.graspan_top.specs.Printing.{status_of}
 use Rattle.graspan_top.specs.Run.{IsShownText}
 use Rattle.graspan_top.specs.Stages.{FindExplains}
@@ -72,45 +68,6 @@ shown_only names table show label l is number edges text shown =
 pub status_at : {T : Type 0} (P : Status → Type 0) (r : Result T Status) (s : Status) → IsErrAnd r (λ y. y ≡ s) → P s → P (status_of r)
 status_at P (Ok x) s is h = absurd is
 status_at P (Err y) s is h = subst P (sym is) h
-
--- opening is refused
-pub open_refused : (T : Type 0) (tells : Bool) (c : Contents) (Undone : Manifest → ℕ → ℕ → Type 0) (before now : ℕ) (bad : ℕ → ℕ → FormKind → Type 0) → ((f p : ℕ) (k : FormKind) → bad f p k → IsTrue tells → IsBadStore c f p k) → (f : StoreFault) → HasDiskCause {T = T} before now bad (Err f) → FindExplains tells c Undone (DiskRose before now) (of_store f)
-open_refused T tells c Undone before now bad why stores.ReadFault h = absurd h
-open_refused T tells c Undone before now bad why stores.DiskFault h = h
-open_refused T tells c Undone before now bad why (stores.InputFault file line kind) h = absurd h
-open_refused T tells c Undone before now bad why (stores.OtherInput file place) h = absurd h
-open_refused T tells c Undone before now bad why (stores.BadStore f p k) h = why f p k h
-open_refused T tells c Undone before now bad why stores.NoMemory h = tt
-
--- a fault of finding is one of the whole, with more that may be asked
-pub find_more : (tells : Bool) (c : Contents) (Undone More : Manifest → ℕ → ℕ → Type 0) (rose : Type 0) → ((m : Manifest) (i j : ℕ) → Undone m i j → More m i j) → (s : Status) → FindExplains tells c Undone rose s → FindExplains tells c More rose s
-find_more tells c Undone More rose more Done h = h
-find_more tells c Undone More rose more Words h = h
-find_more tells c Undone More rose more (InputFault file line kind) h = h
-find_more tells c Undone More rose more (OtherInput file place) h = h
-find_more tells c Undone More rose more ReadFault h = h
-find_more tells c Undone More rose more DiskFault h = h
-find_more tells c Undone More rose more WriteFault h = h
-find_more tells c Undone More rose more NoMemory h = h
-find_more tells c Undone More rose more (BadStore file place kind) h = h
-find_more tells c Undone More rose more NoStore h = h
-find_more tells c Undone More rose more (Unfinished i j) h = λ t. let x = h t in (x.0, x.1, more x.0 i j x.2)
-find_more tells c Undone More rose more NotKnown h = h
-
--- what was found is not done
-pub none_done : (tells : Bool) (c : Contents) (Undone : Manifest → ℕ → ℕ → Type 0) (rose : Type 0) (s : Status) → FindExplains tells c Undone rose s → s ≡ Done → ⊥
-none_done tells c Undone rose Done h e = h
-none_done tells c Undone rose Words h e = h
-none_done tells c Undone rose (InputFault file line kind) h e = h
-none_done tells c Undone rose (OtherInput file place) h e = h
-none_done tells c Undone rose ReadFault h e = h
-none_done tells c Undone rose DiskFault h e = absurd (cc)
-none_done tells c Undone rose WriteFault h e = h
-none_done tells c Undone rose NoMemory h e = absurd (cc)
-none_done tells c Undone rose (BadStore file place kind) h e = absurd (cc)
-none_done tells c Undone rose NoStore h e = absurd (cc)
-none_done tells c Undone rose (Unfinished i j) h e = absurd (cc)
-none_done tells c Undone rose NotKnown h e = h
 
 -- the label that is shown isn't there
 pub refused_label : {T : Type 0} (names : List (List ℕ)) (show : Option (List ℕ)) (label : List ℕ) (r : Result T Status) (e : Status) → IsErrAnd r (λ y. y ≡ e) → e ≡ NotKnown → show ≡ Some label → (Contains names label → ⊥) → IfErr r (λ s. (s ≡ NotKnown) × (label : List ℕ) × (show ≡ Some label) × (Contains names label → ⊥))

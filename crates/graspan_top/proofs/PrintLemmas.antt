@@ -1,8 +1,7 @@
 -- What is printed before and with the line of a fault.
-use Rattle.std.proofs.Common.{◌≡◌, ◌⊎◌, inl, inr, ℕ, List, [], Bool, Option, refl, sym, subst}
-use Rattle.io_edge.specs.Devices.{AppendsPrefix}
+use Rattle.std.proofs.Common.{◌≡◌, inl, inr, ℕ, List, Bool, Option, refl, sym}
 use Rattle.query_text.proofs.Gathering.{nothing_taken}
-use Rattle.graspan_top.specs.Printing.{Ends, Prints, PrintsFirst, TakesLine, TakesPrefix, fault_line}
+use Rattle.graspan_top.specs.Printing.{Ends, Prints, PrintsFirst, TakesLine, fault_line}
 use Rattle.graspan_top.specs.declared.status.Status.{Status}
 use Rattle.graspan_top.specs.declared.status.Status.TheVariants.{Done, Words, InputFault, OtherInput, ReadFault, DiskFault, WriteFault, NoMemory, BadStore, NoStore, Unfinished, NotKnown}
 
@@ -10,17 +9,30 @@ module _ (known : Bool) (IsText : List ℕ → Type 0) where
   -- what was printed first, and then how it ends
   pub prints : (old mid new : Option (List ℕ)) (rose : Type 0) (s : Status) → PrintsFirst known IsText old mid s → Ends mid new rose s → Prints known IsText old new rose s
   prints old mid new rose Done first same = rw same first
+<<<<<<< HEAD
   prints old mid new rose Words first line = rw (← first) line
   prints old mid new rose (InputFault file number kind) first line = rw (← first) line
   prints old mid new rose (OtherInput file place) first line = rw (← first) line
   prints old mid new rose ReadFault first line = rw (← first) line
+=======
+  prints old mid new rose Words first line = rw (sym first) line
+  prints old mid new rose (InputFault file number kind) first line = rw (sym first) line
+  prints old mid new rose (OtherInput file place) first line = rw (sym first) line
+  prints old mid new rose ReadFault first line = rw (sym first) line
+>>>>>>> a468143
   prints old mid new rose DiskFault first line = (mid, first, line)
   prints old mid new rose WriteFault first same = rw same first
   prints old mid new rose NoMemory first line = (mid, first, line)
   prints old mid new rose (BadStore file place kind) first line = (mid, first, line)
+<<<<<<< HEAD
   prints old mid new rose NoStore first line = rw (← first) line
   prints old mid new rose (Unfinished i j) first line = rw (← first) line
   prints old mid new rose NotKnown first line = rw (← first) line
+=======
+  prints old mid new rose NoStore first line = rw (sym first) line
+  prints old mid new rose (Unfinished i j) first line = rw (sym first) line
+  prints old mid new rose NotKnown first line = rw (sym first) line
+>>>>>>> a468143
 
   -- nothing was printed yet
   pub nothing_first : (old : Option (List ℕ)) (s : Status) → (s ≡ Done → ⊥) → PrintsFirst known IsText old old s

@@ -1,5 +1,5 @@
 -- What the commands that only read a store print.
-use Rattle.std.proofs.Common.{◌≡◌, ◌⊎◌, inl, inr, ℕ, zero, suc, ◌+◌, ◌<◌, ◌≤◌, Bool, true, List, [], ◌∷◌, ◌++◌, length, Option, Some, Ok, Err, refl, sym, ap, subst, ◌∙◌, append-nil, arith}
+use Rattle.std.proofs.Common.{◌≡◌, ◌⊎◌, inl, inr, ℕ, ◌+◌, ◌<◌, Bool, List, [], ◌∷◌, ◌++◌, length, Option, Some, Ok, Err, refl, sym, ap, subst, ◌∙◌, append-nil, arith}
 use Rattle.std.specs.Prelude.{IsTrue, IsErrAnd, Result, slice_get, slice_index_or}
 use Rattle.std.specs.Io.KnownBytes.{Appends}
 use Rattle.io_edge.specs.Devices.{AppendsPrefix}
@@ -15,13 +15,11 @@ use Rattle.partition_file.specs.Spelling.{Fits, IsExpect, Part}
 use Rattle.partition_file.proofs.FileLaws.{one_part}
 use Rattle.dest_map.specs.Table.{Comes, counts_of}
 use Rattle.pair_sched.specs.Marks.{joined_of, newest_of}
-use Rattle.pair_sched.specs.Picking.{IsClean, IsLeastDirty}
+use Rattle.pair_sched.specs.Picking.{IsLeastDirty}
 use Rattle.manifest.specs.declared.types.Manifest.{Manifest}
-use Rattle.manifest_switch.specs.declared.slot.Slot.{Slot}
 use Rattle.manifest_switch.specs.declared.slot.Found.{Found}
 use Rattle.manifest_switch.specs.declared.slot.Found.TheVariants.{At, Blank}
 use Rattle.manifest_switch.specs.declared.slot.OpenFault.{OpenFault}
-use Rattle.manifest_switch.specs.Slots.{current_of}
 use Rattle.store_law.specs.Listed.{AreListed, ends_of, expect_of, part_file, part_of}
 use Rattle.store_law.specs.Left.{IsDone}
 use Rattle.store_law.proofs.Intervals.{cut_from_cover}

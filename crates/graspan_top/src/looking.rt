@@ -1,16 +1,14 @@
 //! The commands that only read a store: `query`, `dump` and `parts`.
-ghost use Rattle.std.specs.Prelude.{◌≡◌, ◌≤◌, ◌<◌, ◌++◌, [], ℕ, List, Option, Some, IsTrue, IfErr, IfOk, IfSome, OnOk, OnErr, length, slice_get};
-ghost use Rattle.io_edge.specs.Devices.{AppendsPrefix, Rose, Takes};
-ghost use Rattle.disk_model.specs.Disk.{Contents, Rose as DiskRose};
+ghost use Rattle.std.specs.Prelude.{◌≡◌, ◌≤◌, ◌<◌, ◌++◌, [], ℕ, List, Option, Some, IsTrue, IfErr, IfOk, OnOk, length};
+ghost use Rattle.io_edge.specs.Devices.{AppendsPrefix, Rose};
+ghost use Rattle.disk_model.specs.Disk.{Rose as DiskRose};
 ghost use Rattle.graph_words.specs.declared.types.Born.{Born as ABorn};
-ghost use Rattle.closing_machine.specs.Parts.{all_edges};
 ghost use Rattle.manifest.specs.Spelling.{Fits};
 ghost use Rattle.manifest_switch.specs.Looks.{OnlyLooks};
 ghost use Rattle.store_law.specs.Left.{IsDone};
 ghost use Rattle.open_store.specs.Store.{IsHeld};
 ghost use Rattle.query_text.specs.Text.{answers_in, answers_text};
-ghost use Rattle.query_text.specs.Answered.{HasAnswerCause, IsBlamed, IsPrinted, first_asked, wanted};
-ghost use Rattle.graspan_top.specs.Given.{Given as AGiven};
+ghost use Rattle.query_text.specs.Answered.{HasAnswerCause, IsBlamed, IsPrinted, first_asked};
 ghost use Rattle.graspan_top.specs.declared.status.Status.TheVariants.{NotKnown, Unfinished};
 ghost use Rattle.graspan_top.specs.Looking.{AreVerticesOf, DumpExplains, IsDumpText, IsPartsText, IsQueryText, IsUnfinished, PartsExplains, QueryExplains, count_line as the_count_line, none_undone};
 ghost use Rattle.graspan_top.specs.Printing.{PrintsFirst, status_of};

@@ -1,4 +1,4 @@
-use Rattle.std.proofs.Common.{◌≡◌, ◌∙◌, ℕ, List, Option, Some, Contains, ap, sym, subst}
+use Rattle.std.proofs.Common.{ℕ, List, Option, ap}
 use Rattle.std.proofs.Common.{Bor}
 use Rattle.std.specs.Prelude.{option_map}
 use Rattle.graspan_top.proofs.LookLemmas.{refused_label, shown_only}

@@ -1,4 +1,3 @@
-use Rattle.std.proofs.Common.{◌≡◌, ℕ, Option, List}
 use Rattle.disk_model.specs.Disk.{Rose as DiskRose}
 use Rattle.io_edge.specs.Devices.{Rose}
 use Rattle.store_law.specs.Left.{IsDone}

@@ -1,5 +1,4 @@
-use Rattle.std.proofs.Common.{◌≡◌, ◌∙◌, ℕ, Option, List, sym, subst}
-use Rattle.std.specs.Io.KnownBytes.{Appends}
+use Rattle.std.proofs.Common.{◌∙◌}
 use Rattle.graspan_top.proofs.TextLemmas.{query_stopped, query_unwritten, query_written}
 use Rattle.graspan_top.proofs.looking.print_query.Goals as goal
 

@@ -1,4 +1,4 @@
-use Rattle.std.proofs.Common.{◌≡◌, ℕ, Option, List, Some, inl, sym, subst}
+use Rattle.std.proofs.Common.{◌≡◌, Some, inl, subst}
 use Rattle.std.specs.Prelude.{Contains, slice_get}
 use Rattle.disk_model.specs.Disk.{Rose as DiskRose}
 use Rattle.io_edge.specs.Devices.{Rose}
