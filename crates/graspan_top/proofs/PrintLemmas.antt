@@ -9,30 +9,17 @@ module _ (known : Bool) (IsText : List ℕ → Type 0) where
   -- what was printed first, and then how it ends
   pub prints : (old mid new : Option (List ℕ)) (rose : Type 0) (s : Status) → PrintsFirst known IsText old mid s → Ends mid new rose s → Prints known IsText old new rose s
   prints old mid new rose Done first same = rw same first
-<<<<<<< HEAD
   prints old mid new rose Words first line = rw (← first) line
   prints old mid new rose (InputFault file number kind) first line = rw (← first) line
   prints old mid new rose (OtherInput file place) first line = rw (← first) line
   prints old mid new rose ReadFault first line = rw (← first) line
-=======
-  prints old mid new rose Words first line = rw (sym first) line
-  prints old mid new rose (InputFault file number kind) first line = rw (sym first) line
-  prints old mid new rose (OtherInput file place) first line = rw (sym first) line
-  prints old mid new rose ReadFault first line = rw (sym first) line
->>>>>>> a468143
   prints old mid new rose DiskFault first line = (mid, first, line)
   prints old mid new rose WriteFault first same = rw same first
   prints old mid new rose NoMemory first line = (mid, first, line)
   prints old mid new rose (BadStore file place kind) first line = (mid, first, line)
-<<<<<<< HEAD
   prints old mid new rose NoStore first line = rw (← first) line
   prints old mid new rose (Unfinished i j) first line = rw (← first) line
   prints old mid new rose NotKnown first line = rw (← first) line
-=======
-  prints old mid new rose NoStore first line = rw (sym first) line
-  prints old mid new rose (Unfinished i j) first line = rw (sym first) line
-  prints old mid new rose NotKnown first line = rw (sym first) line
->>>>>>> a468143
 
   -- nothing was printed yet
   pub nothing_first : (old : Option (List ℕ)) (s : Status) → (s ≡ Done → ⊥) → PrintsFirst known IsText old old s
@@ -68,11 +55,7 @@ ends_later old new rose rose' more NoStore h = line_later old new rose rose' mor
 ends_later old new rose rose' more (Unfinished i j) h = line_later old new rose rose' more (fault_line (Unfinished i j)) h
 ends_later old new rose rose' more NotKnown h = line_later old new rose rose' more (fault_line NotKnown) h
 
--- a status without a line, and one with a line
-pub silent_ends : (old : Option (List ℕ)) (rose : Type 0) (s : Status) → (s ≡ Done) ⊎ (s ≡ WriteFault) → Ends old old rose s
-silent_ends old rose s (inl e) = subst (λ (k : Status). Ends old old rose k) (sym e) refl
-silent_ends old rose s (inr e) = subst (λ (k : Status). Ends old old rose k) (sym e) refl
-
+-- a status with a line
 pub loud_ends : (old new : Option (List ℕ)) (rose : Type 0) (s : Status) → (s ≡ Done → ⊥) → (s ≡ WriteFault → ⊥) → TakesLine old new rose (fault_line s) → Ends old new rose s
 loud_ends old new rose Words a b line = line
 loud_ends old new rose (InputFault file number kind) a b line = line
