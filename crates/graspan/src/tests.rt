@@ -1,4 +1,6 @@
+use crate::fs_disk::FsDisk;
 use crate::fs_inputs::FsInputs;
+use disk_model::Disk;
 use io_edge::Inputs;
 use std::fs;
 use std::test::Fail;
@@ -15,5 +17,38 @@ fn a_file_of_the_system_is_read(rt: HostRuntime) -> Result<(), Fail> {
     assert_eq!(rt; buf[0], b'b');
     assert!(rt; inputs.read("graspan_no_such_file", 0, &mut buf).is_err());
     fs::remove_file(&rt, "graspan_test_file")?;
+    Ok(())
+}
+
+// A disk in a folder that isn't there yet: what is written is read, a gap is filled with zeros, and a cut shortens.
+#[test]
+fn a_folder_is_a_disk(rt: HostRuntime) -> Result<(), Fail> {
+    let mut disk = FsDisk::new(&rt, "graspan_test_store");
+    let mut buf = [9u8; 4];
+    assert_eq!(rt; disk.len(4), Ok(0));
+    assert_eq!(rt; disk.read(4, 0, &mut buf), Ok(0));
+    assert_eq!(rt; disk.cut(4, 0), Ok(()));
+    assert!(rt; !fs::exists(&rt, "graspan_test_store/g0004")?);
+    assert_eq!(rt; disk.write_at(4, 2, b"ab"), Ok(()));
+    assert_eq!(rt; disk.len(4), Ok(4));
+    assert_eq!(rt; disk.read(4, 1, &mut buf), Ok(3));
+    assert_eq!(rt; buf, [0, b'a', b'b', 9]);
+    assert_eq!(rt; disk.cut(4, 3), Ok(()));
+    assert_eq!(rt; disk.cut(4, 5), Ok(()));
+    assert_eq!(rt; disk.len(4), Ok(3));
+    assert_eq!(rt; disk.sync(), Ok(()));
+    fs::remove_file(&rt, "graspan_test_store/g0004")?;
+    fs::remove_dir(&rt, "graspan_test_store")?;
+    Ok(())
+}
+
+// A folder that can't be made: each call fails.
+#[test]
+fn a_disk_without_a_folder_fails(rt: HostRuntime) -> Result<(), Fail> {
+    fs::write(&rt, "graspan_test_file2", b"abc")?;
+    let mut disk = FsDisk::new(&rt, "graspan_test_file2");
+    assert!(rt; disk.len(4).is_err());
+    assert!(rt; disk.sync().is_err());
+    fs::remove_file(&rt, "graspan_test_file2")?;
     Ok(())
 }

@@ -1,2 +1,8 @@
+pub mod GrammarLemmas
+pub mod ExplainLemmas
+pub mod ReadyLemmas
 pub mod PrintLemmas
-pub mod RunLemmas
+pub mod LookLemmas
+pub mod ShowLemmas
+pub mod TextLemmas
+pub mod CommandLemmas

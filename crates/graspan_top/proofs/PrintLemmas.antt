@@ -1,33 +1,71 @@
--- The text of edges, one by one.
-use Rattle.std.proofs.Common.{◌≡◌, ℕ, ◌+◌, ◌<◌, List, [], ◌∷◌, ◌++◌, length, take, drop, get_or, Option, Some, Err, sym, ap, ◌∙◌, subst, append-nil}
-use Rattle.std.specs.Prelude.{slice_get, slice_index_or}
-use Rattle.std.specs.Io.KnownBytes.{Appends}
-use Rattle.std.proofs.lemmas.Grind.{flat_map-append}
-use Rattle.std.proofs.lemmas.List.{take_more, take-append-drop}
-use Rattle.std.proofs.lemmas.Option.{get_or_from_slice_get}
-use Rattle.graph_words.specs.declared.types.Edge.{Edge}
-use Rattle.io_edge.specs.Devices.{AppendsPrefix}
-use Rattle.io_edge.proofs.DeviceLemmas.{AppendsPrefix-more, takes_more}
-use Rattle.edge_text.specs.Print.{edge_bytes}
-use Rattle.graspan_top.specs.Headline.{edges_text}
+-- What is printed before and with the line of a fault.
+use Rattle.std.proofs.Common.{◌≡◌, inl, inr, ℕ, List, Bool, Option, refl, sym}
+use Rattle.query_text.proofs.Gathering.{nothing_taken}
+use Rattle.graspan_top.specs.Printing.{Ends, Prints, PrintsFirst, TakesLine, fault_line}
+use Rattle.graspan_top.specs.declared.status.Status.{Status}
+use Rattle.graspan_top.specs.declared.status.Status.TheVariants.{Done, Words, InputFault, OtherInput, ReadFault, DiskFault, WriteFault, NoMemory, BadStore, NoStore, Unfinished, NotKnown}
 
--- the line of one edge
-pub one_line_text : (names : List (List ℕ)) (e : Edge) (name : List ℕ) → slice_get names e.label.0 ≡ Some name → edge_bytes e.src.0 e.dst.0 name ≡ edges_text names (e ∷ [])
-one_line_text names e name is = sym (append-nil (edge_bytes e.src.0 e.dst.0 (get_or names e.label.0 [])) ∙ ap (edge_bytes e.src.0 e.dst.0) (get_or_from_slice_get names e.label.0 name [] is))
+module _ (known : Bool) (IsText : List ℕ → Type 0) where
+  -- what was printed first, and then how it ends
+  pub prints : (old mid new : Option (List ℕ)) (rose : Type 0) (s : Status) → PrintsFirst known IsText old mid s → Ends mid new rose s → Prints known IsText old new rose s
+  prints old mid new rose Done first same = rw same first
+  prints old mid new rose Words first line = rw (← first) line
+  prints old mid new rose (InputFault file number kind) first line = rw (← first) line
+  prints old mid new rose (OtherInput file place) first line = rw (← first) line
+  prints old mid new rose ReadFault first line = rw (← first) line
+  prints old mid new rose DiskFault first line = (mid, first, line)
+  prints old mid new rose WriteFault first same = rw same first
+  prints old mid new rose NoMemory first line = (mid, first, line)
+  prints old mid new rose (BadStore file place kind) first line = (mid, first, line)
+  prints old mid new rose NoStore first line = rw (← first) line
+  prints old mid new rose (Unfinished i j) first line = rw (← first) line
+  prints old mid new rose NotKnown first line = rw (← first) line
 
--- one edge more
-pub text_more : (names : List (List ℕ)) (edges : List Edge) (i : ℕ) (d : Edge) → i < length edges → edges_text names (take (i + 1) edges) ≡ edges_text names (take i edges) ++ edges_text names (get_or edges i d ∷ [])
-text_more names edges i d l =
-    ap (edges_text names) (take_more edges i d l) ∙ flat_map-append (λ (e : Edge). edge_bytes e.src.0 e.dst.0 (slice_index_or names e.label.0 [])) (take i edges) (get_or edges i d ∷ [])
+  -- nothing was printed yet
+  pub nothing_first : (old : Option (List ℕ)) (s : Status) → (s ≡ Done → ⊥) → PrintsFirst known IsText old old s
+  nothing_first old Done not = absurd (not refl)
+  nothing_first old Words not = refl
+  nothing_first old (InputFault file number kind) not = refl
+  nothing_first old (OtherInput file place) not = refl
+  nothing_first old ReadFault not = refl
+  nothing_first old DiskFault not = λ text k is. nothing_taken old text
+  nothing_first old WriteFault not = λ text k is. nothing_taken old text
+  nothing_first old NoMemory not = λ text k is. nothing_taken old text
+  nothing_first old (BadStore file place kind) not = λ text k is. nothing_taken old text
+  nothing_first old NoStore not = refl
+  nothing_first old (Unfinished i j) not = refl
+  nothing_first old NotKnown not = refl
 
--- what was printed of the first edges is a prefix of the whole
-pub prefix_of_all : (old new : Option (List ℕ)) (names : List (List ℕ)) (edges : List Edge) (i : ℕ) → AppendsPrefix old new (edges_text names (take i edges)) → AppendsPrefix old new (edges_text names edges)
-prefix_of_all old new names edges i p =
-    let whole : edges_text names edges ≡ edges_text names (take i edges) ++ edges_text names (drop i edges) = ap (edges_text names) (sym (take-append-drop i edges)) ∙ flat_map-append (λ (e : Edge). edge_bytes e.src.0 e.dst.0 (slice_index_or names e.label.0 [])) (take i edges) (drop i edges) in
-    subst (λ (t : List ℕ). AppendsPrefix old new t) (sym whole) (AppendsPrefix-more old new (edges_text names (take i edges)) (edges_text names (drop i edges)) p)
+-- a failed write of a line is one of the whole
+line_later : (old new : Option (List ℕ)) (rose rose' : Type 0) → (rose → rose') → (line : List ℕ) → TakesLine old new rose line → TakesLine old new rose' line
+line_later old new rose rose' more line (inl all) = inl all
+line_later old new rose rose' more line (inr (failed, part)) = inr (more failed, part)
 
--- where the line of an edge failed, a prefix of the whole was taken
-pub after_failure : (old mid new : Option (List ℕ)) (names : List (List ℕ)) (edges : List Edge) (i : ℕ) (d : Edge) → i < length edges → Appends old mid (edges_text names (take i edges)) → AppendsPrefix mid new (edges_text names (get_or edges i d ∷ [])) → AppendsPrefix old new (edges_text names edges)
-after_failure old mid new names edges i d l p q =
-    let both = takes_more {T = Unit {0}} {E = Unit {0}} old mid new (Err tt) (edges_text names (take i edges)) (edges_text names (get_or edges i d ∷ [])) p q in
-    prefix_of_all old new names edges (i + 1) (subst (λ (t : List ℕ). AppendsPrefix old new t) (sym (text_more names edges i d l)) both)
+pub ends_later : (old new : Option (List ℕ)) (rose rose' : Type 0) → (rose → rose') → (s : Status) → Ends old new rose s → Ends old new rose' s
+ends_later old new rose rose' more Done h = h
+ends_later old new rose rose' more WriteFault h = h
+ends_later old new rose rose' more Words h = line_later old new rose rose' more (fault_line Words) h
+ends_later old new rose rose' more (InputFault file number kind) h = line_later old new rose rose' more (fault_line (InputFault file number kind)) h
+ends_later old new rose rose' more (OtherInput file place) h = line_later old new rose rose' more (fault_line (OtherInput file place)) h
+ends_later old new rose rose' more ReadFault h = line_later old new rose rose' more (fault_line ReadFault) h
+ends_later old new rose rose' more DiskFault h = line_later old new rose rose' more (fault_line DiskFault) h
+ends_later old new rose rose' more NoMemory h = line_later old new rose rose' more (fault_line NoMemory) h
+ends_later old new rose rose' more (BadStore file place kind) h = line_later old new rose rose' more (fault_line (BadStore file place kind)) h
+ends_later old new rose rose' more NoStore h = line_later old new rose rose' more (fault_line NoStore) h
+ends_later old new rose rose' more (Unfinished i j) h = line_later old new rose rose' more (fault_line (Unfinished i j)) h
+ends_later old new rose rose' more NotKnown h = line_later old new rose rose' more (fault_line NotKnown) h
+
+-- a status with a line
+pub loud_ends : (old new : Option (List ℕ)) (rose : Type 0) (s : Status) → (s ≡ Done → ⊥) → (s ≡ WriteFault → ⊥) → TakesLine old new rose (fault_line s) → Ends old new rose s
+loud_ends old new rose Words a b line = line
+loud_ends old new rose (InputFault file number kind) a b line = line
+loud_ends old new rose (OtherInput file place) a b line = line
+loud_ends old new rose ReadFault a b line = line
+loud_ends old new rose DiskFault a b line = line
+loud_ends old new rose NoMemory a b line = line
+loud_ends old new rose (BadStore file place kind) a b line = line
+loud_ends old new rose NoStore a b line = line
+loud_ends old new rose (Unfinished i j) a b line = line
+loud_ends old new rose NotKnown a b line = line
+loud_ends old new rose Done a b line = absurd (a refl)
+loud_ends old new rose WriteFault a b line = absurd (b refl)

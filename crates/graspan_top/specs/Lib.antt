@@ -1,5 +1,9 @@
 pub mod Codes
 pub mod Names
-pub mod Words
-pub mod Headline
+pub mod Faults
+pub mod Given
+pub mod Printing
+pub mod Run
+pub mod Looking
+pub mod Command
 pub mod Stages

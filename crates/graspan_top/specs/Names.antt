@@ -4,6 +4,9 @@ use Rattle.io_edge.specs.declared.kinds.InputFile.{InputFile}
 use Rattle.io_edge.specs.declared.kinds.InputFile.TheVariants.{Grammar, Edges, Source}
 use Rattle.io_edge.specs.declared.kinds.InputKind.{InputKind}
 use Rattle.io_edge.specs.declared.kinds.InputKind.TheVariants.{LineTooLong, TooLong, WrongCount, BadSource, BadDestination, BadLabel, RightTooLong, TooManyRules, TooManyLabels, BadByte, OpenComment, NameTooLong, Unexpected, TooDeep, Undeclared, Repeated, WrongArguments, NoValue, TooManyVertices}
+use Rattle.disk_model.specs.declared.form_kind.FormKind.{FormKind}
+use Rattle.disk_model.specs.declared.form_kind.FormKind.TheVariants.{BadMagic, Short, Extra, BadNumber, RepeatedLabel, BadParts, BadFile, BadCount, BadMark, BadBounds, BadOrder, BadVertex, BadBirth, BadText, Counts, Generations}
+use Rattle.disk_model.specs.declared.form_kind.FormKind.TheVariants as forms
 
 abbrev pub file_name : InputFile → List ℕ
 file_name Grammar = codes "grammar"
@@ -30,3 +33,23 @@ kind_name Repeated = codes "Repeated"
 kind_name WrongArguments = codes "WrongArguments"
 kind_name NoValue = codes "NoValue"
 kind_name TooManyVertices = codes "TooManyVertices"
+
+-- what breaks in a store
+abbrev pub form_name : FormKind → List ℕ
+form_name BadMagic = codes "BadMagic"
+form_name Short = codes "Short"
+form_name Extra = codes "Extra"
+form_name BadNumber = codes "BadNumber"
+form_name forms.BadLabel = codes "BadLabel"
+form_name RepeatedLabel = codes "RepeatedLabel"
+form_name BadParts = codes "BadParts"
+form_name BadFile = codes "BadFile"
+form_name BadCount = codes "BadCount"
+form_name BadMark = codes "BadMark"
+form_name BadBounds = codes "BadBounds"
+form_name BadOrder = codes "BadOrder"
+form_name BadVertex = codes "BadVertex"
+form_name BadBirth = codes "BadBirth"
+form_name BadText = codes "BadText"
+form_name Counts = codes "Counts"
+form_name Generations = codes "Generations"

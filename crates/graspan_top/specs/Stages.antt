@@ -1,18 +1,30 @@
 -- What the steps of a run answer.
-use Rattle.std.specs.Prelude.{◌≡◌, ℕ, ◌<◌, ◌≤◌, List, All, Option, Some, length, ◌⊎◌}
-use Rattle.graph_words.specs.declared.types.Edge.{Edge}
-use Rattle.graph_words.specs.declared.types.Rule.{Rule}
-use Rattle.io_edge.specs.declared.kinds.InputFile.TheVariants.{Grammar, Edges}
-use Rattle.edge_text.specs.EdgesText.{edges_fault, graph_of}
-use Rattle.grammar_norm.specs.GrammarText.{grammar_fault, grammar_names, rules_of, ReadsGrammar}
+use Rattle.std.specs.Prelude.{◌≡◌, ◌⊎◌, ℕ, Bool, IsTrue, List, [], length, Contains, Option, Some, None, Ok}
+use Rattle.graph_words.specs.declared.types.LabelId.{LabelId}
+use Rattle.graph_words.specs.declared.types.Born.{Born}
+use Rattle.io_edge.specs.declared.kinds.InputFile.TheVariants.{Grammar, Edges, Source}
+use Rattle.grammar_norm.specs.GrammarText.{grammar_fault}
+use Rattle.disk_model.specs.Disk.{Contents}
+use Rattle.disk_model.specs.Crash.{LeavesJust}
+use Rattle.manifest.specs.declared.types.Manifest.{Manifest}
+use Rattle.open_store.specs.Answers.{DiffersFirst, copy_of}
+use Rattle.open_store.specs.Store.{IsHeldAlone, OpenStore}
+use Rattle.open_store.specs.declared.fault.StoreFault.{StoreFault}
+use Rattle.open_store.specs.declared.fault.StoreFault.TheVariants as stores
+use Rattle.manifest_switch.specs.declared.slot.Found.TheVariants.{Blank}
+use Rattle.manifest_switch.specs.Slots.{current_of}
+use Rattle.open_store.specs.Opening.{IsBadStore}
+use Rattle.query_text.specs.Text.{answers_text}
+use Rattle.query_text.specs.Answered.{IsBlamed}
+use Rattle.graspan_top.specs.Given.{Given, WhereTold}
+use Rattle.graspan_top.specs.Looking.{HasCurrent}
+use Rattle.graspan_top.specs.Run.{Accepts, IsGoodGrammar, IsOpenedAs}
 use Rattle.graspan_top.specs.declared.status.Status.{Status}
-use Rattle.graspan_top.specs.declared.status.Status.TheVariants.{InputFault, ReadFault, NoMemory}
-use Rattle.graspan_top.specs.Headline.{AreGood, IsClosureOf, IsGoodGrammar, WhereTold, names_of}
+use Rattle.graspan_top.specs.declared.status.Status.TheVariants.{Done, InputFault, ReadFault, DiskFault, WriteFault, NoMemory, BadStore, NoStore, Unfinished, NotKnown}
 
 -- a good grammar was read, which is the file where it is told
-pub record ReadsGrammarFile (told : Option (List ℕ)) (rules : List Rule) (names : List (List ℕ)) : Type 0 where
-  pub text : List ℕ
-  pub reads : ReadsGrammar text rules names
+pub record IsGrammarFile (told : Option (List ℕ)) (text : List ℕ) : Type 0 where
+  pub good : IsGoodGrammar text
   pub is_file : WhereTold told (λ file. text ≡ file)
 
 -- why the grammar file was refused
@@ -22,34 +34,52 @@ RefusesGrammar told rose ReadFault = rose
 RefusesGrammar told rose NoMemory = Unit {0}
 RefusesGrammar told rose _ = ⊥
 
--- why the edge file was refused behind these names
-abbrev pub RefusesEdges : List (List ℕ) → Option (List ℕ) → Type 0 → Status → Type 0
-RefusesEdges names told rose (InputFault Edges line kind) = WhereTold told (λ e. edges_fault names e ≡ Some (record { line = line; kind = kind }))
-RefusesEdges names told rose ReadFault = rose
-RefusesEdges names told rose NoMemory = Unit {0}
-RefusesEdges names told rose _ = ⊥
+-- the file is the store's copy, where both are told
+abbrev pub IsCopied : Option (List ℕ) → Bool → List ℕ → Type 0
+IsCopied told tells copy = WhereTold told (λ file. IsTrue tells → file ≡ copy)
 
--- why a run was refused before anything was printed
-abbrev pub Refuses : Option (List ℕ) → Option (List ℕ) → Type 0 → Type 0 → Status → Type 0
-Refuses grammar edges grammar_rose edges_rose (InputFault Grammar line kind) = WhereTold grammar (λ g. grammar_fault g ≡ Some (record { line = line; kind = kind }))
-Refuses grammar edges grammar_rose edges_rose (InputFault Edges line kind) = WhereTold grammar (λ g. IsGoodGrammar g × WhereTold edges (λ e. edges_fault (grammar_names g) e ≡ Some (record { line = line; kind = kind })))
-Refuses grammar edges grammar_rose edges_rose ReadFault = grammar_rose ⊎ (WhereTold grammar IsGoodGrammar × edges_rose)
-Refuses grammar edges grammar_rose edges_rose NoMemory = Unit {0}
-Refuses grammar edges grammar_rose edges_rose _ = ⊥
+-- they differ first at this place
+abbrev pub DiffersFrom : Option (List ℕ) → Bool → List ℕ → ℕ → Type 0
+DiffersFrom told tells copy place = WhereTold told (λ file. IsTrue tells → DiffersFirst file copy place)
 
--- an edge that a line can be printed of
-pub record IsPrintable (names : List (List ℕ)) (e : Edge) : Type 0 where
-  pub source : e.src.0 ≤ 16777215
-  pub destination : e.dst.0 ≤ 16777215
-  pub label : e.label.0 < length names
+-- why the files were not found to be a store's copies: a read failed, of the grammar or of the edges, or the disk; or one of them differs, the grammar being compared first
+abbrev pub CompareExplains : Option (List ℕ) → Option (List ℕ) → Bool → Contents → Manifest → Type 0 → Type 0 → Type 0 → StoreFault → Type 0
+CompareExplains grammar edges tells seen m grammar_rose edges_rose disk_rose stores.ReadFault = grammar_rose ⊎ edges_rose
+CompareExplains grammar edges tells seen m grammar_rose edges_rose disk_rose stores.DiskFault = disk_rose
+CompareExplains grammar edges tells seen m grammar_rose edges_rose disk_rose (stores.OtherInput Grammar place) = DiffersFrom grammar tells (copy_of m Grammar seen) place
+CompareExplains grammar edges tells seen m grammar_rose edges_rose disk_rose (stores.OtherInput Edges place) = IsCopied grammar tells (copy_of m Grammar seen) × DiffersFrom edges tells (copy_of m Edges seen) place
+CompareExplains grammar edges tells seen m grammar_rose edges_rose disk_rose (stores.OtherInput Source place) = ⊥
+CompareExplains grammar edges tells seen m grammar_rose edges_rose disk_rose stores.NoMemory = Unit {0}
+CompareExplains grammar edges tells seen m grammar_rose edges_rose disk_rose (stores.InputFault file line kind) = ⊥
+CompareExplains grammar edges tells seen m grammar_rose edges_rose disk_rose (stores.BadStore file place kind) = ⊥
 
--- the closure of two good texts, which are the files where these are told
-pub record ListsClosure (grammar_told edges_told : Option (List ℕ)) (names : List (List ℕ)) (listed : List Edge) : Type 0 where
-  pub grammar : List ℕ
-  pub edges : List ℕ
-  pub is_grammar : WhereTold grammar_told (λ file. grammar ≡ file)
-  pub is_edges : WhereTold edges_told (λ file. edges ≡ file)
-  pub good : AreGood grammar edges
-  pub names_are : names ≡ names_of grammar edges
-  pub closure : IsClosureOf (graph_of (names_of grammar edges) edges) (rules_of (names_of grammar edges) grammar) listed
-  pub printable : All (IsPrintable names) listed
+-- The store may be closed: it is of the files, alone in each image, and a crash leaves what a read gives.
+pub record IsReady (x : Given) (edges grammar : List ℕ) (seen : Contents) (images : Contents → Type 0) (s : OpenStore) : Type 0 where
+  pub accepts : Accepts x edges grammar
+  pub held : (c : Contents) → images c → IsHeldAlone s c
+  pub synced : LeavesJust seen images
+  pub opened : IsTrue x.tells → IsOpenedAs x edges grammar seen s
+
+-- the answers of a label that is shown by its number, and nothing where none is
+abbrev pub shown_text : Option LabelId → List Born → List ℕ
+shown_text None edges = []
+shown_text (Some l) edges = answers_text l None None edges
+
+-- why the printing of a run ends as it does
+abbrev pub ShowExplains : OpenStore → Bool → Contents → Option (List ℕ) → Type 0 → Type 0 → Status → Type 0
+ShowExplains s tells c show disk_rose out_rose Done = Unit {0}
+ShowExplains s tells c show disk_rose out_rose NotKnown = (label : List ℕ) × (show ≡ Some label) × (Contains s.manifest.labels label → ⊥)
+ShowExplains s tells c show disk_rose out_rose DiskFault = disk_rose
+ShowExplains s tells c show disk_rose out_rose (BadStore file place kind) = IsBlamed s tells c 0 (length s.manifest.parts) file place kind
+ShowExplains s tells c show disk_rose out_rose WriteFault = out_rose
+ShowExplains s tells c show disk_rose out_rose NoMemory = Unit {0}
+ShowExplains s tells c show disk_rose out_rose _ = ⊥
+
+-- why no store was found, or none that may be printed
+abbrev pub FindExplains : Bool → Contents → (Manifest → ℕ → ℕ → Type 0) → Type 0 → Status → Type 0
+FindExplains tells c Undone disk_rose NoStore = IsTrue tells → current_of c ≡ Ok Blank
+FindExplains tells c Undone disk_rose (Unfinished i j) = IsTrue tells → (m : Manifest) × HasCurrent c m × Undone m i j
+FindExplains tells c Undone disk_rose DiskFault = disk_rose
+FindExplains tells c Undone disk_rose (BadStore file place kind) = IsTrue tells → IsBadStore c file place kind
+FindExplains tells c Undone disk_rose NoMemory = Unit {0}
+FindExplains tells c Undone disk_rose _ = ⊥

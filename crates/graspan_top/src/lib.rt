@@ -1,12 +1,16 @@
-//! The commands of graspan, over inputs and a sink that are handed in.
+//! The commands of graspan, over inputs, a disk and a sink that are handed in.
 #![tactic(auto)]
 
+mod command;
+mod grammar_file;
+mod labels;
+mod looking;
 mod print;
-mod run;
+mod readying;
+mod running;
 mod status;
-mod words;
 
-pub use run::graspan;
+pub use command::graspan;
 pub use status::Status;
 
 #[cfg(test)]

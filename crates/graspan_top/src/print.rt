@@ -1,53 +1,24 @@
-//! What a command prints.
-ghost use Rattle.std.specs.Prelude.{◌≡◌, ◌≢◌, ◌≤◌, ◌+◌, ◌++◌, ◌∷◌, [], length, All};
+//! The lines of faults.
+ghost use Rattle.std.specs.Prelude.{◌≡◌, ◌≤◌, ◌+◌, ◌++◌, length};
 ghost use Rattle.arrayvec.specs.ArrayVec.{array_vec_len};
-ghost use Rattle.io_edge.specs.Devices.{HasCause, Rose, Takes};
-ghost use Rattle.graspan_top.specs.declared.status.Status.TheVariants.{Done, InputFault, WriteFault};
-ghost use Rattle.graspan_top.specs.Headline.{edges_text, fault_line, TakesLine};
-ghost use Rattle.graspan_top.specs.Names.{file_name as file_name_of, kind_name as kind_name_of};
-ghost use Rattle.graspan_top.specs.Stages.{IsPrintable};
+ghost use Rattle.io_edge.specs.Devices.{Rose};
+ghost use Rattle.graspan_top.specs.declared.status.Status.TheVariants.{BadStore, InputFault, OtherInput, Unfinished};
+ghost use Rattle.graspan_top.specs.Printing.{TakesLine, fault_line};
+ghost use Rattle.graspan_top.specs.Names.{file_name as file_name_of, form_name as form_name_of, kind_name as kind_name_of};
 
 use crate::status::Status;
 use arrayvec::ArrayVec;
-use edge_text::print_edge;
-use grammar_norm::LabelTable;
-use graph_words::Edge;
-use io_edge::{Failed, InputFile, InputKind, Sink};
+use disk_model::FormKind;
+use io_edge::{InputFile, InputKind, Sink};
 use itoa::Buffer;
 
-/// More than the longest line of a refusal has: three names, a number and a line feed.
+/// More than the longest line of a fault has: three names, two numbers and a line feed.
 const LINE_ROOM: usize = 160;
 
-/// Prints the line of an edge.
-fn print_one<O: Sink>(out: &mut O, table: &LabelTable, edge: Edge) -> Result<(), Failed>
-    requires { IsPrintable table.now edge }
-    ensures taken { Takes (O.told out.old) (O.told out.new) result (edges_text table.now (edge ∷ [])) }
-    ensures cause { HasCause (O.faults out.old) (O.faults out.new) result }
-{
-    let Some(name) = table.name_of(edge.label) else {
-        unreachable!();
-    };
-    print_edge(out, edge.src.0, edge.dst.0, name)
-}
-
-/// Prints the lines of edges, in order.
-pub(crate) fn print_edges<O: Sink>(
-    out: &mut O,
-    table: &LabelTable,
-    edges: &[Edge],
-) -> Result<(), Failed>
-    requires { All (IsPrintable table.now) edges.now }
-    ensures taken { Takes (O.told out.old) (O.told out.new) result (edges_text table.now edges.now) }
-    ensures cause { HasCause (O.faults out.old) (O.faults out.new) result }
-{
-    for edge in edges {
-        print_one(out, table, *edge)?;
-    }
-    Ok(())
-}
+type Line = ArrayVec<u8, LINE_ROOM>;
 
 /// Adds bytes that fit.
-fn append(line: &mut ArrayVec<u8, LINE_ROOM>, bytes: &[u8])
+fn append(line: &mut Line, bytes: &[u8])
     requires { array_vec_len line.old + length bytes.now ≤ 160 }
     ensures items { line.new.items ≡ line.old.items ++ bytes.now }
     ensures len { array_vec_len line.new ≡ array_vec_len line.old + length bytes.now }
@@ -95,52 +66,125 @@ fn kind_name(kind: InputKind) -> &'static [u8]
     }
 }
 
-/// Adds the line of a file's first fault.
-fn append_input_fault(
-    line: &mut ArrayVec<u8, LINE_ROOM>,
-    file: InputFile,
-    number: u64,
-    kind: InputKind,
-)
-    requires { line.old.items ≡ [] }
-    ensures { line.new.items ≡ fault_line (InputFault file number kind) }
+/// The name of what breaks in a store.
+fn form_name(kind: FormKind) -> &'static [u8]
+    ensures name { result.now ≡ form_name_of kind }
+    ensures short { length result.now ≤ 15 }
 {
-    let mut buffer = Buffer::new();
-    append(line, b"fault input ");
-    append(line, file_name(file));
-    append(line, b" ");
-    append(line, buffer.format(number).as_bytes());
-    append(line, b" ");
-    append(line, kind_name(kind));
-    append(line, b"\n");
+    match kind {
+        FormKind::BadMagic => b"BadMagic",
+        FormKind::Short => b"Short",
+        FormKind::Extra => b"Extra",
+        FormKind::BadNumber => b"BadNumber",
+        FormKind::BadLabel => b"BadLabel",
+        FormKind::RepeatedLabel => b"RepeatedLabel",
+        FormKind::BadParts => b"BadParts",
+        FormKind::BadFile => b"BadFile",
+        FormKind::BadCount => b"BadCount",
+        FormKind::BadMark => b"BadMark",
+        FormKind::BadBounds => b"BadBounds",
+        FormKind::BadOrder => b"BadOrder",
+        FormKind::BadVertex => b"BadVertex",
+        FormKind::BadBirth => b"BadBirth",
+        FormKind::BadText => b"BadText",
+        FormKind::Counts => b"Counts",
+        FormKind::Generations => b"Generations",
+    }
 }
 
-/// The line of a refusal, with its line feed.
-fn refusal_line(status: Status) -> ArrayVec<u8, LINE_ROOM>
-    requires done { status ≢ Done }
-    requires write { status ≢ WriteFault }
-    ensures { result.items ≡ fault_line status }
+/// The line of a file's first fault.
+fn input_line(file: InputFile, number: u64, kind: InputKind) -> Line
+    ensures { result.items ≡ fault_line (InputFault file number kind) }
 {
     let mut line = ArrayVec::new();
-    match status {
-        Status::Words => append(&mut line, b"fault words\n"),
-        Status::InputFault {
-            file,
-            line: number,
-            kind,
-        } => append_input_fault(&mut line, file, number, kind),
-        Status::ReadFault => append(&mut line, b"fault read\n"),
-        Status::NoMemory => append(&mut line, b"fault memory\n"),
-        Status::Done | Status::WriteFault => unreachable!(),
-    }
+    let mut buffer = Buffer::new();
+    append(&mut line, b"fault input ");
+    append(&mut line, file_name(file));
+    append(&mut line, b" ");
+    append(&mut line, buffer.format(number).as_bytes());
+    append(&mut line, b" ");
+    append(&mut line, kind_name(kind));
+    append(&mut line, b"\n");
     line
 }
 
-/// Prints the line of a refusal. Where it can't be written the status stays, so the failure is told by the sink's count alone.
-pub(crate) fn print_refusal<O: Sink>(out: &mut O, status: Status)
-    requires done { status ≢ Done }
-    requires write { status ≢ WriteFault }
-    ensures { TakesLine (O.told out.old) (O.told out.new) (Rose (O.faults out.old) (O.faults out.new)) (fault_line status) }
+/// The line of a file that isn't the store's.
+fn other_line(file: InputFile, place: u64) -> Line
+    ensures { result.items ≡ fault_line (OtherInput file place) }
 {
-    let _ = out.write(refusal_line(status).as_slice());
+    let mut line = ArrayVec::new();
+    let mut buffer = Buffer::new();
+    append(&mut line, b"fault other ");
+    append(&mut line, file_name(file));
+    append(&mut line, b" ");
+    append(&mut line, buffer.format(place).as_bytes());
+    append(&mut line, b"\n");
+    line
+}
+
+/// The line of a file of the store that breaks a rule.
+fn store_line(file: u32, place: u64, kind: FormKind) -> Line
+    ensures { result.items ≡ fault_line (BadStore file place kind) }
+{
+    let mut line = ArrayVec::new();
+    let mut buffer = Buffer::new();
+    append(&mut line, b"fault store ");
+    append(&mut line, buffer.format(file).as_bytes());
+    append(&mut line, b" ");
+    append(&mut line, buffer.format(place).as_bytes());
+    append(&mut line, b" ");
+    append(&mut line, form_name(kind));
+    append(&mut line, b"\n");
+    line
+}
+
+/// The line of a pair with work left.
+fn unfinished_line(i: usize, j: usize) -> Line
+    ensures { result.items ≡ fault_line (Unfinished i j) }
+{
+    let mut line = ArrayVec::new();
+    let mut buffer = Buffer::new();
+    append(&mut line, b"fault unfinished ");
+    append(&mut line, buffer.format(i).as_bytes());
+    append(&mut line, b" ");
+    append(&mut line, buffer.format(j).as_bytes());
+    append(&mut line, b"\n");
+    line
+}
+
+/// A line that is always the same.
+fn fixed_line(bytes: &[u8]) -> Line
+    requires { length bytes.now ≤ 160 }
+    ensures { result.items ≡ bytes.now }
+{
+    let mut line = ArrayVec::new();
+    append(&mut line, bytes);
+    line
+}
+
+/// The line of a fault, with its line feed. Done and a failed write have none.
+fn line_of(status: Status) -> Line
+    ensures { result.items ≡ fault_line status }
+{
+    match status {
+        Status::Done | Status::WriteFault => ArrayVec::new(),
+        Status::Words => fixed_line(b"fault words\n"),
+        Status::InputFault { file, line, kind } => input_line(file, line, kind),
+        Status::OtherInput { file, place } => other_line(file, place),
+        Status::ReadFault => fixed_line(b"fault read\n"),
+        Status::DiskFault => fixed_line(b"fault disk\n"),
+        Status::NoMemory => fixed_line(b"fault memory\n"),
+        Status::BadStore { file, place, kind } => store_line(file, place, kind),
+        Status::NoStore => fixed_line(b"fault no store\n"),
+        Status::Unfinished { i, j } => unfinished_line(i, j),
+        Status::NotKnown => fixed_line(b"fault not known\n"),
+    }
+}
+
+/// Prints the line of a fault. Where it can't be written the status stays, so the failure is told by the sink's count alone.
+pub(crate) fn print_fault<O: Sink>(out: &mut O, status: Status)
+    ensures line { TakesLine (O.told out.old) (O.told out.new) (Rose (O.faults out.old) (O.faults out.new)) (fault_line status) }
+    ensures later { O.faults out.old ≤ O.faults out.new }
+{
+    let _ = out.write(line_of(status).as_slice());
 }

@@ -1,7 +1,19 @@
+//! What no clause says: that commands succeed, and what worked examples print.
 use super::*;
-use io_edge::{InputFile, MemInputs, MemSink, NamedBytes, WordList};
+use disk_model::{CrashChoice, Disk, MemDisk};
+use io_edge::{MemInputs, MemSink, NamedBytes, WordList};
 use std::alloc::Global;
 use std::test::Fail;
+
+/// A path of two edges, and a grammar that joins them.
+const EDGES: &[u8] = b"0 1 a\n1 2 b\n";
+
+const GRAMMAR: &[u8] = b"S a b\n";
+
+const RUN: [&str; 5] = ["run", "e", "g", "--show", "S"];
+
+const PRINTED: &[u8] =
+    b"vertices 3\npart 0 0 3 3\nlabel S 1\nlabel a 1\nlabel b 1\nanswer 0 2\ndone\n";
 
 /// The lines `0 0 l0` to `0 0 lN`.
 fn many_labels(alloc: Global, last: u32) -> Result<Vec<u8>, Fail> {
@@ -32,85 +44,183 @@ fn word_list(alloc: Global, words: &[&str]) -> Result<WordList, Fail> {
     Ok(list)
 }
 
-/// What a run of an edge file and a grammar file prints, and its exit status.
-fn run_of(alloc: Global, edges: &[u8], grammar: &[u8]) -> Result<(MemSink, u8), Fail> {
-    let words = word_list(alloc, &["run", "e", "g"])?;
+/// What a command over two files and a disk prints, and its exit status.
+fn says(
+    alloc: Global,
+    disk: &mut MemDisk,
+    edges: &[u8],
+    grammar: &[u8],
+    words: &[&str],
+) -> Result<(MemSink, u8), Fail> {
+    let words = word_list(alloc, words)?;
     let mut inputs = two_files(alloc, edges, grammar)?;
     let mut out = MemSink::new(alloc);
-    let status = graspan(alloc, &words, &mut inputs, &mut out);
+    let status = graspan(alloc, &words, &mut inputs, disk, &mut out);
     Ok((out, status.code()))
+}
+
+/// The same over the path of two edges.
+fn path_says(alloc: Global, disk: &mut MemDisk, words: &[&str]) -> Result<(MemSink, u8), Fail> {
+    says(alloc, disk, EDGES, GRAMMAR, words)
 }
 
 // Worked out by hand.
 #[test]
-fn a_run_prints_the_closure(rt: HostRuntime) -> Result<(), Fail> {
+fn a_run_prints_partitions_labels_and_answers(rt: HostRuntime) -> Result<(), Fail> {
     let alloc = rt.alloc();
-    for (edges, grammar, printed) in [
+    for (edges, grammar, words, printed) in [
+        (EDGES, GRAMMAR, RUN.as_slice(), PRINTED),
+        // No edge, an empty rule, and a vertex on no edge.
         (
-            b"0 1 a\n1 2 b\n".as_slice(),
-            b"S a b\n".as_slice(),
-            b"0 2 S\n0 1 a\n1 2 b\n".as_slice(),
-        ),
-        // No edge at all, a loop, and lines that say an edge twice.
-        (b"", b"S a b\n", b""),
-        (b"3 3 a\n", b"S a a\n", b"3 3 S\n3 3 a\n"),
-        (
-            b"0 1 a\r\n0\t1 a\n# note\n\n1 2 a",
-            b"S a a\n",
-            b"0 2 S\n0 1 a\n1 2 a\n",
-        ),
-        // New joins of new edges: a cycle, and one edge from each vertex of a chain to each later one.
-        (
-            b"0 1 a\n1 0 a\n",
-            b"a a a\n",
-            b"0 0 a\n0 1 a\n1 0 a\n1 1 a\n",
+            b"",
+            b"S\n",
+            ["run", "e", "g"].as_slice(),
+            b"vertices 0\nlabel S 0\ndone\n".as_slice(),
         ),
         (
-            b"0 1 a\n1 2 a\n2 3 a\n",
-            b"a a a\n",
-            b"0 1 a\n0 2 a\n0 3 a\n1 2 a\n1 3 a\n2 3 a\n",
+            b"0 2 x\n",
+            b"S\n",
+            ["run", "e", "g"].as_slice(),
+            b"vertices 3\npart 0 0 3 4\nlabel S 3\nlabel x 1\ndone\n",
+        ),
+        // Brackets in one partition and in two, single rules in a cycle, and rules that begin alike.
+        (
+            b"0 0 (\n0 1 )\n1 0 )\n",
+            b"S\nS ( S ) S\n",
+            RUN.as_slice(),
+            b"vertices 2\npart 0 0 2 13\nlabel S 3\nlabel ( 1\nlabel ) 2\nanswer 0 0\nanswer 0 1\nanswer 1 1\ndone\n",
+        ),
+        (
+            b"0 0 (\n0 1 )\n1 0 )\n",
+            b"S\nS ( S ) S\n",
+            ["run", "e", "g", "--part-edges", "1"].as_slice(),
+            b"vertices 2\npart 0 0 1 7\npart 1 1 2 6\nlabel S 3\nlabel ( 1\nlabel ) 2\ndone\n",
+        ),
+        (
+            b"0 1 A\n1 2 B\n",
+            b"A B\nB A\n",
+            ["run", "e", "g"].as_slice(),
+            b"vertices 3\npart 0 0 3 4\nlabel A 2\nlabel B 2\ndone\n",
+        ),
+        (
+            b"0 1 a\n1 2 b\n2 3 c\n3 4 d\n4 5 e\n",
+            b"S a b c d e\nT a b c x y\n",
+            ["run", "e", "g"].as_slice(),
+            b"vertices 6\npart 0 0 6 9\nlabel S 1\nlabel a 1\nlabel b 1\nlabel c 1\nlabel d 1\nlabel e 1\nlabel T 0\nlabel x 0\nlabel y 0\ndone\n",
+        ),
+        // Blanks, a remark, and lines that say an edge twice.
+        (
+            b"0 1 a\r\n0\t1  a\n# note\n\n 0 1 a",
+            b"S a/\n",
+            ["run", "e", "g"].as_slice(),
+            b"vertices 2\npart 0 0 2 1\nlabel S 0\nlabel a/ 0\nlabel a 1\ndone\n",
         ),
     ] {
-        let (out, code) = run_of(alloc, edges, grammar)?;
+        let mut disk = MemDisk::new(alloc)?;
+        let (out, code) = says(alloc, &mut disk, edges, grammar, words)?;
         assert_eq!(rt; out.bytes(), printed);
         assert_eq!(rt; code, 0);
     }
     Ok(())
 }
 
-// Worked out by hand.
 #[test]
-fn rules_have_any_number_of_labels(rt: HostRuntime) -> Result<(), Fail> {
+fn a_finished_store_is_asked(rt: HostRuntime) -> Result<(), Fail> {
     let alloc = rt.alloc();
-    for (edges, grammar, printed) in [
-        // Empty rules, brackets, single rules in a cycle, and rules that begin alike.
-        (b"".as_slice(), b"S\n".as_slice(), b"".as_slice()),
-        (b"0 2 x\n", b"S\n", b"0 0 S\n0 2 x\n1 1 S\n2 2 S\n"),
+    let mut disk = MemDisk::new(alloc)?;
+    let edges = b"0 0 (\n0 1 )\n1 0 )\n".as_slice();
+    let grammar = b"S\nS ( S ) S\n".as_slice();
+    for (words, printed, code) in [
         (
-            b"0 0 (\n0 1 )\n1 0 )\n",
-            b"S\nS ( S ) S\n",
+            ["query", "S", "0"].as_slice(),
+            b"fault no store\n".as_slice(),
+            9,
+        ),
+        (["dump"].as_slice(), b"fault no store\n", 9),
+        (["parts"].as_slice(), b"fault no store\n", 9),
+        (
+            ["run", "e", "g", "--show", "Z"].as_slice(),
+            b"fault not known\n",
+            11,
+        ),
+        (
+            ["query", "S", "0"].as_slice(),
+            b"answer 0 0\nanswer 0 1\ncount 2\n",
+            0,
+        ),
+        (["query", "S", "1", "0"].as_slice(), b"count 0\n", 0),
+        (
+            ["query", "S", "1", "1"].as_slice(),
+            b"answer 1 1\ncount 1\n",
+            0,
+        ),
+        (
+            ["dump"].as_slice(),
             b"0 0 S\n0 1 S\n0 0 (\n0 1 )\n1 1 S\n1 0 )\n",
+            0,
         ),
         (
-            b"0 1 A\n1 2 B\n",
-            b"A B\nB A\n",
-            b"0 1 A\n0 1 B\n1 2 A\n1 2 B\n",
+            ["parts"].as_slice(),
+            b"vertices 2\npart 0 0 2 13\nfinished\n",
+            0,
         ),
+        (["query", "Z", "0"].as_slice(), b"fault not known\n", 11),
+        (["query", "S", "2"].as_slice(), b"fault not known\n", 11),
         (
-            b"0 1 a\n1 2 b\n2 3 c\n3 4 d\n4 5 e\n",
-            b"S a b c d e\nT a b c x y\n",
-            b"0 5 S\n0 1 a\n1 2 b\n2 3 c\n3 4 d\n4 5 e\n",
+            ["query", "S", "0", "2"].as_slice(),
+            b"fault not known\n",
+            11,
         ),
-        // A right side whose every label derives the empty word.
-        (
-            b"1 1 x\n",
-            b"S A A A A\nA\n",
-            b"0 0 S\n0 0 A\n1 1 S\n1 1 A\n1 1 x\n",
-        ),
+        (["query", "S"].as_slice(), b"fault words\n", 1),
     ] {
-        let (out, code) = run_of(alloc, edges, grammar)?;
+        let (out, status) = says(alloc, &mut disk, edges, grammar, words)?;
         assert_eq!(rt; out.bytes(), printed);
-        assert_eq!(rt; code, 0);
+        assert_eq!(rt; status, code);
+    }
+    Ok(())
+}
+
+#[test]
+fn a_second_run_writes_nothing_and_other_files_are_refused(rt: HostRuntime) -> Result<(), Fail> {
+    let alloc = rt.alloc();
+    let mut disk = MemDisk::new(alloc)?;
+    let (first, _) = path_says(alloc, &mut disk, &RUN)?;
+    assert_eq!(rt; first.bytes(), PRINTED);
+    let writes = disk.writes();
+    let (second, code) = path_says(alloc, &mut disk, &RUN)?;
+    assert_eq!(rt; second.bytes(), PRINTED);
+    assert_eq!(rt; code, 0);
+    assert_eq!(rt; disk.writes(), writes);
+    let (other, code) = says(alloc, &mut disk, EDGES, b"S a b\n\n", &RUN)?;
+    assert_eq!(rt; other.bytes(), b"fault other grammar 6\n".as_slice());
+    assert_eq!(rt; code, 3);
+    let (other, code) = says(alloc, &mut disk, b"0 1 a\n1 3 b\n", GRAMMAR, &RUN)?;
+    assert_eq!(rt; other.bytes(), b"fault other edges 8\n".as_slice());
+    assert_eq!(rt; code, 3);
+    assert_eq!(rt; disk.writes(), writes);
+    Ok(())
+}
+
+#[test]
+fn a_damaged_store_is_blamed(rt: HostRuntime) -> Result<(), Fail> {
+    let alloc = rt.alloc();
+    let mut disk = MemDisk::new(alloc)?;
+    let _ = path_says(alloc, &mut disk, &RUN)?;
+    // One byte behind the partition's last.
+    let Ok(()) = disk.write_at(5, 78, b"\0") else {
+        panic!(rt; "not written");
+    };
+    let (out, code) = path_says(alloc, &mut disk, &["query", "S", "0"])?;
+    assert_eq!(rt; out.bytes(), b"fault store 5 78 Extra\n".as_slice());
+    assert_eq!(rt; code, 8);
+    // The current slot is cut, and the other one isn't taken in its stead.
+    let Ok(()) = disk.cut(1, 75) else {
+        panic!(rt; "not cut");
+    };
+    for words in [["parts"].as_slice(), RUN.as_slice()] {
+        let (out, code) = path_says(alloc, &mut disk, words)?;
+        assert_eq!(rt; out.bytes(), b"fault store 1 68 Short\n".as_slice());
+        assert_eq!(rt; code, 8);
     }
     Ok(())
 }
@@ -121,11 +231,11 @@ fn the_first_fault_of_a_file_is_told(rt: HostRuntime) -> Result<(), Fail> {
     for (edges, grammar, printed) in [
         (
             b"0 1 a\n0 1\n".as_slice(),
-            b"S a b\n".as_slice(),
+            GRAMMAR,
             b"fault input edges 2 WrongCount\n".as_slice(),
         ),
         (
-            b"0 1 a\n",
+            EDGES,
             b"S a\r\n\n# remark\nS a \x01\n",
             b"fault input grammar 4 BadLabel\n",
         ),
@@ -135,73 +245,94 @@ fn the_first_fault_of_a_file_is_told(rt: HostRuntime) -> Result<(), Fail> {
             b"fault input edges 1 BadDestination\n",
         ),
     ] {
-        let (out, code) = run_of(alloc, edges, grammar)?;
+        let mut disk = MemDisk::new(alloc)?;
+        let (out, code) = says(alloc, &mut disk, edges, grammar, &RUN)?;
         assert_eq!(rt; out.bytes(), printed);
         assert_eq!(rt; code, 2);
+        let (out, code) = says(alloc, &mut disk, edges, grammar, &["parts"])?;
+        assert_eq!(rt; out.bytes(), b"fault no store\n".as_slice());
+        assert_eq!(rt; code, 9);
     }
     Ok(())
 }
 
 #[test]
-fn the_1001st_label_is_one_too_many(rt: HostRuntime) -> Result<(), Fail> {
+fn a_thousand_labels_are_there(rt: HostRuntime) -> Result<(), Fail> {
     let alloc = rt.alloc();
-    let words = word_list(alloc, &["run", "e", "g"])?;
-    for (last, code) in [(999, 0), (1000, 2)] {
-        let mut inputs = two_files(alloc, &many_labels(alloc, last)?, b"")?;
-        let mut out = MemSink::new(alloc);
-        let status = graspan(alloc, &words, &mut inputs, &mut out);
-        assert_eq!(rt; status.code(), code);
-        if code == 2 {
-            assert_eq!(rt;
-                out.bytes(),
-                b"fault input edges 1001 TooManyLabels\n".as_slice()
-            );
-        }
-    }
+    let mut disk = MemDisk::new(alloc)?;
+    let edges = many_labels(alloc, 1000)?;
+    let (out, code) = says(alloc, &mut disk, &edges, b"", &["run", "e", "g"])?;
+    assert_eq!(rt;
+        out.bytes(),
+        b"fault input edges 1001 TooManyLabels\n".as_slice()
+    );
+    assert_eq!(rt; code, 2);
+    let edges = many_labels(alloc, 999)?;
+    let (_, code) = says(alloc, &mut disk, &edges, b"", &["run", "e", "g"])?;
+    assert_eq!(rt; code, 0);
     Ok(())
 }
 
 #[test]
-fn words_without_a_reading_are_refused(rt: HostRuntime) -> Result<(), Fail> {
+fn a_failing_read_is_told(rt: HostRuntime) -> Result<(), Fail> {
     let alloc = rt.alloc();
-    for words in [
-        [].as_slice(),
-        &["run", "e"],
-        &["go", "e", "g"],
-        &["run", "e", "-g"],
-        &["run", "", "g"],
-        &["run", "e", "g", "g"],
-    ] {
-        let mut out = MemSink::new(alloc);
-        let words = word_list(alloc, words)?;
-        let status = graspan(alloc, &words, &mut two_files(alloc, b"", b"")?, &mut out);
-        assert_eq!(rt; status, Status::Words);
-        assert_eq!(rt; out.bytes(), b"fault words\n".as_slice());
-    }
-    Ok(())
-}
-
-#[test]
-fn a_failing_read_and_a_failing_write_are_told(rt: HostRuntime) -> Result<(), Fail> {
-    let alloc = rt.alloc();
-    let words = word_list(alloc, &["run", "e", "g"])?;
+    let words = word_list(alloc, &RUN)?;
     for call in 0..4 {
-        let mut inputs = two_files(alloc, b"0 1 a\n1 2 b\n", b"S a b\n")?;
+        let mut inputs = two_files(alloc, EDGES, GRAMMAR)?;
         inputs.fail_calls(vec![in alloc; call]?);
+        let mut disk = MemDisk::new(alloc)?;
         let mut out = MemSink::new(alloc);
-        assert_eq!(rt;
-            graspan(alloc, &words, &mut inputs, &mut out),
-            Status::ReadFault
-        );
+        let status = graspan(alloc, &words, &mut inputs, &mut disk, &mut out);
+        assert_eq!(rt; status, Status::ReadFault);
         assert_eq!(rt; out.bytes(), b"fault read\n".as_slice());
     }
+    Ok(())
+}
+
+#[test]
+fn a_failing_write_is_told_and_the_store_is_finished(rt: HostRuntime) -> Result<(), Fail> {
+    let alloc = rt.alloc();
+    let words = word_list(alloc, &RUN)?;
+    let mut disk = MemDisk::new(alloc)?;
+    let mut inputs = two_files(alloc, EDGES, GRAMMAR)?;
     let mut out = MemSink::new(alloc);
-    out.fail_calls(vec![in alloc; 1]?);
-    let mut inputs = two_files(alloc, b"0 1 a\n1 2 b\n", b"S a b\n")?;
+    out.fail_calls(vec![in alloc; 0]?);
+    let status = graspan(alloc, &words, &mut inputs, &mut disk, &mut out);
+    assert_eq!(rt; status, Status::WriteFault);
+    assert_eq!(rt; out.bytes(), b"".as_slice());
+    let (out, code) = path_says(alloc, &mut disk, &["parts"])?;
     assert_eq!(rt;
-        graspan(alloc, &words, &mut inputs, &mut out),
-        Status::WriteFault
+        out.bytes(),
+        b"vertices 3\npart 0 0 3 3\nfinished\n".as_slice()
     );
-    assert_eq!(rt; out.bytes(), b"0 2 S\n".as_slice());
+    assert_eq!(rt; code, 0);
+    Ok(())
+}
+
+/// Whether a run whose disk stops at a call is told, and a run on what is left prints the whole.
+fn resumes_after(alloc: Global, call: u64, choice: CrashChoice) -> Result<bool, Fail> {
+    let mut disk = MemDisk::new(alloc)?;
+    disk.stop_from(call);
+    let (_, code) = path_says(alloc, &mut disk, &RUN)?;
+    if code != 5 {
+        return Ok(false);
+    }
+    let mut left = disk.crash(alloc, choice)?;
+    let (out, code) = path_says(alloc, &mut left, &RUN)?;
+    Ok(code == 0 && out.bytes() == PRINTED)
+}
+
+#[test]
+fn a_stopped_run_is_resumed(rt: HostRuntime) -> Result<(), Fail> {
+    let alloc = rt.alloc();
+    for call in [0, 5, 10, 15, 20, 25, 30] {
+        for choice in [
+            CrashChoice::AsRead,
+            CrashChoice::AsSynced,
+            CrashChoice::Drawn(call),
+        ] {
+            assert!(rt; resumes_after(alloc, call, choice)?);
+        }
+    }
     Ok(())
 }

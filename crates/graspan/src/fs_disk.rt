@@ -1,0 +1,274 @@
+//! A folder of the system as a disk: the trusted edge. No clause says what its files hold.
+ghost use Rattle.std.specs.Prelude.{◌≡◌, ◌+◌, ◌<◌, ◌≤◌, ◌^◌, false, [], length, IfOk};
+ghost use Rattle.std.proofs.lemmas.Bool.{false≢true};
+ghost use Rattle.disk_model.specs.Disk.{HasFailed};
+
+use disk_model::{Disk, Failed};
+use std::fs::{File, OpenFile, OpenOptions};
+use std::io::{ErrorKind, Read, Seek, SeekFrom, Write};
+use std::rt::Files;
+use std::{fs, io};
+
+/// The number of files that a disk has.
+const FILES: usize = 1024;
+
+/// A file that is open.
+#[derive(Drop)]
+struct Held<F: Drop> {
+    number: u32,
+    may_write: bool,
+    file: F,
+}
+
+/// A folder with the files `g0000` to `g1023`. A file that isn't there is an empty one.
+///
+/// The one that was used last is kept open. Each call of a disk whose folder couldn't be made fails.
+#[derive(Drop)]
+pub(crate) struct FsDisk<'a, R: Files + AllocGlobal> {
+    rt: &'a R,
+    folder: Option<String>,
+    last: Option<Held<R::File>>,
+    // The files that may have changed since the last sync: all of them before the first one.
+    unsynced: [bool; 1024],
+    faults: u64,
+}
+
+// Makes the folder where it isn't there.
+fn make_folder<R: Files + AllocGlobal>(rt: &R, path: &str) -> io::Result<String> {
+    if let Err(e) = fs::create_dir(rt, path) {
+        if e.kind() != ErrorKind::AlreadyExists || !fs::metadata(rt, path)?.is_dir() {
+            return Err(e);
+        }
+    }
+    Ok(String::from_str(rt.alloc(), path)?)
+}
+
+// Reads until the buffer is full or the file ends, and answers how many bytes came.
+fn read_on<F: Read>(file: &mut F, buf: &mut [u8]) -> io::Result<usize>
+    ensures { IfOk result (λ n. n ≤ length buf.new) }
+{
+    let mut done = 0;
+    while done < buf.len() {
+        let n = file.read(&mut buf[done..])?;
+        if n == 0 {
+            return Ok(done);
+        }
+        done += n;
+    }
+    Ok(done)
+}
+
+// None where the file isn't there.
+fn if_there<T: Drop>(opened: io::Result<T>) -> io::Result<Option<T>> {
+    match opened {
+        Ok(value) => Ok(Some(value)),
+        Err(e) if e.kind() == ErrorKind::NotFound => Ok(None),
+        Err(e) => Err(e),
+    }
+}
+
+impl<'a, R: Files + AllocGlobal> FsDisk<'a, R> {
+    /// The disk in this folder, which is made where it isn't there.
+    pub(crate) fn new(rt: &'a R, path: &str) -> Self {
+        FsDisk {
+            rt,
+            folder: make_folder(rt, path).ok(),
+            last: None,
+            unsynced: [true; FILES],
+            faults: 0,
+        }
+    }
+
+    // The path of a file.
+    fn path(&self, number: u32) -> io::Result<String> {
+        match &self.folder {
+            Some(folder) => Ok(format!(in self.rt.alloc(); "{folder}/g{number:04}")?),
+            None => Err(io::Error::from(ErrorKind::InvalidInput)),
+        }
+    }
+
+    // Opens a file, which is made only where it is to be written.
+    fn open(&self, number: u32, may_write: bool) -> io::Result<Held<R::File>> {
+        let path = self.path(number)?;
+        let mut how = OpenOptions::new();
+        how.read(true);
+        how.write(may_write);
+        how.create(may_write);
+        Ok(Held {
+            number,
+            may_write,
+            file: how.open(self.rt, path.as_str())?,
+        })
+    }
+
+    // The file that is open, or opens it.
+    fn held(&mut self, number: u32, may_write: bool) -> io::Result<Held<R::File>>
+        ensures faults { self.new.faults ≡ self.old.faults }
+    {
+        match self.last.take() {
+            Some(held) if held.number == number && (held.may_write || !may_write) => Ok(held),
+            _ => self.open(number, may_write),
+        }
+    }
+
+    fn len_of(&mut self, number: u32) -> io::Result<u64>
+        ensures faults { self.new.faults ≡ self.old.faults }
+    {
+        let Some(held) = if_there(self.held(number, false))? else {
+            return Ok(0);
+        };
+        let len = held.file.metadata()?.len();
+        self.last = Some(held);
+        Ok(len)
+    }
+
+    fn read_from(&mut self, number: u32, at: u64, buf: &mut [u8]) -> io::Result<usize>
+        ensures count { IfOk result (λ n. n ≤ length buf.new) }
+        ensures faults { self.new.faults ≡ self.old.faults }
+    {
+        let Some(mut held) = if_there(self.held(number, false))? else {
+            return Ok(0);
+        };
+        held.file.seek(SeekFrom::Start(at))?;
+        let n = read_on(&mut held.file, buf)?;
+        self.last = Some(held);
+        Ok(n)
+    }
+
+    // A file that may have changed is synced by the next sync.
+    fn note(&mut self, number: u32)
+        requires { number < 1024 }
+        ensures faults { self.new.faults ≡ self.old.faults }
+    {
+        self.unsynced[number as usize] = true;
+    }
+
+    fn write_from(&mut self, number: u32, at: u64, bytes: &[u8]) -> io::Result<()>
+        requires { number < 1024 }
+        ensures faults { self.new.faults ≡ self.old.faults }
+    {
+        if bytes.is_empty() {
+            return Ok(());
+        }
+        self.note(number);
+        let mut held = self.held(number, true)?;
+        held.file.seek(SeekFrom::Start(at))?;
+        held.file.write_all(bytes)?;
+        self.last = Some(held);
+        Ok(())
+    }
+
+    fn cut_to(&mut self, number: u32, len: u64) -> io::Result<()>
+        requires { number < 1024 }
+        ensures faults { self.new.faults ≡ self.old.faults }
+    {
+        if self.len_of(number)? <= len {
+            return Ok(());
+        }
+        self.note(number);
+        let held = self.held(number, true)?;
+        held.file.set_len(len)?;
+        self.last = Some(held);
+        Ok(())
+    }
+
+    // Syncs a file, where it is there.
+    fn sync_file(&mut self, number: u32) -> io::Result<()>
+        requires { number < 1024 }
+        ensures faults { self.new.faults ≡ self.old.faults }
+    {
+        if let Some(held) = if_there(self.held(number, false))? {
+            held.file.sync_all()?;
+            self.last = Some(held);
+        }
+        self.unsynced[number as usize] = false;
+        Ok(())
+    }
+
+    // Syncs the folder, so that it knows its files.
+    fn sync_folder(&self) -> io::Result<()> {
+        match &self.folder {
+            Some(folder) => File::open(self.rt, folder.as_str())?.sync_all(),
+            None => Err(io::Error::from(ErrorKind::InvalidInput)),
+        }
+    }
+
+    // Syncs each file that may have changed since the last sync, and the folder.
+    fn sync_all(&mut self) -> io::Result<()>
+        ensures faults { self.new.faults ≡ self.old.faults }
+    {
+        for number in 0..FILES {
+            if self.unsynced[number] {
+                self.sync_file(number as u32)?;
+            }
+        }
+        self.sync_folder()
+    }
+
+    // A call that failed raises the count.
+    fn fail(&mut self) -> Failed
+        ensures { HasFailed self.old.faults self.new.faults }
+    {
+        self.faults = self.faults.saturating_add(1);
+        Failed
+    }
+}
+
+impl<R: Files + AllocGlobal> Disk for FsDisk<'_, R> {
+    ghost tells = { false };
+
+    ghost seen = { λ disk f. [] };
+
+    ghost may_leave = { λ disk c. ⊥ };
+
+    ghost moment = { λ disk. 0 };
+
+    ghost left_since = { λ disk t c. ⊥ };
+
+    ghost faults = { λ disk. disk.faults };
+
+    ghost told = { λ disk c image. absurd image };
+
+    ghost honest = { λ disk tells. absurd (false≢true tells) };
+
+    ghost mixes = { λ disk a b c image. absurd image };
+
+    ghost counts_now = { λ disk t c le image. image };
+
+    ghost only_now = { λ disk c image. image };
+
+    fn len(&mut self, file: u32) -> Result<u64, Failed> {
+        match self.len_of(file) {
+            Ok(len) => Ok(len),
+            Err(_) => Err(self.fail()),
+        }
+    }
+
+    fn read(&mut self, file: u32, at: u64, buf: &mut [u8]) -> Result<usize, Failed> {
+        match self.read_from(file, at, buf) {
+            Ok(n) => Ok(n),
+            Err(_) => Err(self.fail()),
+        }
+    }
+
+    fn write_at(&mut self, file: u32, at: u64, bytes: &[u8]) -> Result<(), Failed> {
+        match self.write_from(file, at, bytes) {
+            Ok(()) => Ok(()),
+            Err(_) => Err(self.fail()),
+        }
+    }
+
+    fn cut(&mut self, file: u32, len: u64) -> Result<(), Failed> {
+        match self.cut_to(file, len) {
+            Ok(()) => Ok(()),
+            Err(_) => Err(self.fail()),
+        }
+    }
+
+    fn sync(&mut self) -> Result<(), Failed> {
+        match self.sync_all() {
+            Ok(()) => Ok(()),
+            Err(_) => Err(self.fail()),
+        }
+    }
+}

@@ -1,0 +1,34 @@
+-- What a command explains, whichever it is.
+use Rattle.std.proofs.Common.{◌≡◌, ℕ, List, refl}
+use Rattle.disk_model.specs.Disk.{Contents}
+use Rattle.store_law.specs.Left.{IsDone}
+use Rattle.command_words.specs.declared.fault.WordsFault.{WordsFault}
+use Rattle.command_words.specs.declared.fault.WordsFault.TheVariants as words
+use Rattle.command_words.specs.Command.{Said, run, query, dump, parts}
+use Rattle.graspan_top.specs.Command.{Explains}
+use Rattle.graspan_top.specs.Faults.{of_words}
+use Rattle.graspan_top.specs.Given.{Given}
+use Rattle.graspan_top.specs.Looking.{IsAny, IsKnownIn, IsUnfinished, IsUnknownIn, none_undone, none_unknown, wants_all, wants_none, wants_one}
+use Rattle.graspan_top.specs.declared.status.Status.{Status}
+use Rattle.graspan_top.specs.declared.status.Status.TheVariants.{Words}
+use Rattle.graspan_top.proofs.ExplainLemmas.{explains_later}
+use Rattle.graspan_top.proofs.LookLemmas.{look_later}
+
+module _ (x : Given) (after : Contents) (reads : List ℕ → Type 0) (dr wr : Type 0) where
+  pub said_later : (wr' : Type 0) → (wr → wr') → (c : Said) (s : Status) → Explains x after reads dr wr c s → Explains x after reads dr wr' c s
+  said_later wr' more (run edges grammar options show) s h = explains_later x edges grammar show after (reads edges) (reads grammar) dr wr (reads edges) (reads grammar) dr wr' (λ k. k) (λ k. k) (λ k. k) more s h
+  said_later wr' more (query label from to) s h = look_later x (wants_one from) (IsKnownIn label from to) IsUnfinished (IsUnknownIn label from to) dr wr wr' more s h
+  said_later wr' more dump s h = look_later x wants_all IsDone IsUnfinished none_unknown dr wr wr' more s h
+  said_later wr' more parts s h = look_later x wants_none IsAny none_undone none_unknown dr wr wr' more s h
+
+  -- words that were not read for want of memory
+  pub words_explain : (f : WordsFault) → (f ≡ words.Words → ⊥) → (c : Said) → Explains x after reads dr wr c (of_words f)
+  words_explain words.Words not c = absurd (not refl)
+  words_explain words.NoMemory not (run edges grammar options show) = tt
+  words_explain words.NoMemory not (query label from to) = tt
+  words_explain words.NoMemory not dump = tt
+  words_explain words.NoMemory not parts = tt
+
+pub words_back : (f : WordsFault) → of_words f ≡ Words → f ≡ words.Words
+words_back words.Words e = refl
+words_back words.NoMemory e = absurd (cc)

@@ -1,0 +1,81 @@
+-- The text of a run, piece by piece.
+use Rattle.std.proofs.Common.{◌≡◌, ℕ, ◌+◌, ◌<◌, ◌≤◌, Bool, List, [], ◌++◌, length, Option, Ok, Err, refl, sym, ◌∙◌, subst, arith}
+use Rattle.std.specs.Prelude.{IsTrue, IsErrAnd, Result, slice_index_or}
+use Rattle.graph_words.specs.declared.types.Born.{Born}
+use Rattle.graph_words.specs.declared.types.LabelId.{LabelId}
+use Rattle.graph_words.specs.declared.types.Rule.{Rule}
+use Rattle.io_edge.specs.Devices.{AppendsPrefix, Takes}
+use Rattle.normal_law.specs.NormalForm.{normal_form}
+use Rattle.closing_machine.specs.Parts.{all_edges}
+use Rattle.disk_model.specs.Disk.{Contents}
+use Rattle.manifest.specs.declared.types.Manifest.{Manifest}
+use Rattle.manifest_switch.specs.declared.slot.Found.TheVariants.{At}
+use Rattle.manifest_switch.specs.Slots.{current_of}
+use Rattle.store_law.specs.Left.{IsDone}
+use Rattle.store_law.specs.Listed.{AreListed, part_file}
+use Rattle.open_store.specs.Copy.{IsCopyRead}
+use Rattle.open_store.specs.Store.{IsHeld, OpenStore}
+use Rattle.open_store.specs.Reading.{IsRead}
+use Rattle.query_text.specs.declared.fault.AnswerFault.{AnswerFault}
+use Rattle.query_text.specs.declared.fault.AnswerFault.TheVariants as answers
+use Rattle.query_text.specs.Text.{head_text, tally_text}
+use Rattle.query_text.specs.Answered.{AreListedIn, AreRead}
+use Rattle.graspan_top.specs.Faults.{of_answer}
+use Rattle.graspan_top.specs.Printing.{PrintsFirst, TakesPrefix}
+use Rattle.graspan_top.specs.Run.{IsEnd, IsRunText, IsShownText, done_line}
+use Rattle.graspan_top.specs.Stages.{shown_text}
+
+-- what a call that failed has taken
+pub takes_err : {U E : Type 0} (old new : Option (List ℕ)) (r : Result U E) (e : E) (text : List ℕ) → IsErrAnd r (λ x. x ≡ e) → AppendsPrefix old new text → Takes old new r text
+takes_err old new (Ok y) e text is p = absurd is
+takes_err old new (Err y) e text is p = p
+
+-- partitions that were all read are listed
+pub listed_of_read : (s : OpenStore) (tells : Bool) (c : Contents) (read : List (List Born)) → IsTrue tells → AreRead s tells c 0 read → length read ≡ length s.manifest.parts → AreListedIn s c read
+listed_of_read s tells c read t are all =
+    record { size = all; spells = λ i lt. (each i (omega (arith, all, lt))).spells t; fits = λ i lt. (each i (omega (arith, all, lt))).fits }
+  where
+    each : (i : ℕ) → i < length read → IsRead s i tells (c (part_file s.manifest i)) (slice_index_or read i [])
+    each i lt = subst (λ (k : ℕ). IsRead s k tells (c (part_file s.manifest k)) (slice_index_or read i [])) (let e : 0 + i ≡ i = omega arith in e) (are.each i lt)
+
+-- a copy has one grammar
+rules_once : (m : Manifest) (file : List ℕ) (xs ys : List Rule) → IsCopyRead m file xs → IsCopyRead m file ys → xs ≡ ys
+rules_once m file xs ys a b = a.reads.rules_are [] ∙ sym (b.reads.rules_are [])
+
+module _ (s : OpenStore) (c : Contents) (held : IsHeld s c) (show : Option (List ℕ)) (shown : Option LabelId) where
+  abbrev text_of : List (List Born) → List ℕ
+  text_of parts = head_text s.manifest ++ (tally_text s.manifest.labels (all_edges parts) ++ (shown_text shown (all_edges parts) ++ done_line))
+
+  -- the text of a run is that of the store that is held
+  pub the_text : ((edges : List Born) (text : List ℕ) → IsShownText s.manifest.labels edges show text → text ≡ shown_text shown edges) → (text : List ℕ) → IsRunText c show text → (parts : List (List Born)) × AreListedIn s c parts × (text ≡ text_of parts)
+  the_text only text t =
+      let a : current_of c ≡ Ok (At t.end.slot t.manifest) = t.end.current in
+      let b : current_of c ≡ Ok (At s.slot s.manifest) = held.current in
+      let m : t.manifest ≡ s.manifest = cc in
+      go t.manifest m t.parts t.end t.shown t.shown_is t.printed
+    where
+      go : (m : Manifest) → m ≡ s.manifest → (parts : List (List Born)) → IsEnd c m parts → (text' : List ℕ) → IsShownText m.labels (all_edges parts) show text' → text ≡ head_text m ++ (tally_text m.labels (all_edges parts) ++ (text' ++ done_line)) → (parts : List (List Born)) × AreListedIn s c parts × (text ≡ text_of parts)
+      go m same parts end text' is printed =
+          let rules = rules_once s.manifest (c 2) end.rules s.rules (subst (λ (k : Manifest). IsCopyRead k (c 2) end.rules) same end.grammar) held.grammar in
+          let listed : AreListed c s.manifest (normal_form end.rules).fresh parts = subst (λ (k : Manifest). AreListed c k (normal_form end.rules).fresh parts) same end.listed in
+          let shown_is = only (all_edges parts) text' (subst (λ (k : Manifest). IsShownText k.labels (all_edges parts) show text') same is) in
+          (parts, subst (λ (r : List Rule). AreListed c s.manifest (normal_form r).fresh parts) rules listed, printed ∙ (rw (same, shown_is) refl))
+
+  -- and the store that is held has such a text
+  pub some_text : IsDone s.manifest → (parts : List (List Born)) → AreListedIn s c parts → IsShownText s.manifest.labels (all_edges parts) show (shown_text shown (all_edges parts)) → IsRunText c show (text_of parts)
+  some_text done parts listed is =
+      record {
+        manifest = s.manifest;
+        parts = parts;
+        end = record { slot = s.slot; current = held.current; rules = s.rules; grammar = held.grammar; listed = listed; done = done };
+        shown = shown_text shown (all_edges parts);
+        shown_is = is;
+        printed = refl;
+      }
+
+-- a fault while the text is printed
+pub fault_prints : (known : Bool) (IsText : List ℕ → Type 0) (old new : Option (List ℕ)) (f : AnswerFault) → TakesPrefix known IsText old new → PrintsFirst known IsText old new (of_answer f)
+fault_prints known IsText old new answers.DiskFault p = p
+fault_prints known IsText old new (answers.BadStore file place kind) p = p
+fault_prints known IsText old new answers.WriteFault p = p
+fault_prints known IsText old new answers.NoMemory p = p

@@ -1,0 +1,43 @@
+use Rattle.std.proofs.Common.{◌≡◌, ℕ, List, Option, Some, sym, ap, subst, ◌∙◌}
+use Rattle.std.specs.Prelude.{IsTrue, option_map}
+use Rattle.disk_model.specs.Disk.{Rose as DiskRose}
+use Rattle.io_edge.specs.Devices.{Rose}
+use Rattle.command_words.specs.declared.command.Command.{Command}
+use Rattle.command_words.specs.Command.{Said, run, said}
+use Rattle.graspan_top.specs.Command.{Explains}
+use Rattle.graspan_top.specs.Given.{Given}
+use Rattle.graspan_top.specs.Printing.{status_of}
+use Rattle.graspan_top.proofs.command.carry_out.Goals as goal
+
+pub returns-in-Run-clause-exact : goal.returns-in-Run-clause-exact
+returns-in-Run-clause-exact g c =
+    λ edges grammar options show same tells gt et tg te left done.
+    let is : said c.args.command ≡ run c.in-Run.edges.now c.in-Run.grammar.now c.in-Run.options (option_map (λ s. s.now) c.in-Run.show) = ap said c.in-Run.is in
+    let both : run c.in-Run.edges.now c.in-Run.grammar.now c.in-Run.options (option_map (λ s. s.now) c.in-Run.show) ≡ run edges grammar options show = sym is ∙ same in
+    let ee : c.in-Run.edges.now ≡ edges = cc in
+    let ge : c.in-Run.grammar.now ≡ grammar = cc in
+    c.run.ensures.exact tells gt et (ap (g.I.Inputs.told c.args.inputs.now) ge ∙ tg) (ap (g.I.Inputs.told c.args.inputs.now) ee ∙ te) left done
+
+pub returns-in-Query-clause-explained : goal.returns-in-Query-clause-explained
+returns-in-Query-clause-explained g c =
+    let D = g.D.Disk in
+    let I = g.I.Inputs in
+    let O = g.O.Sink in
+    let x : Given = record { told = I.told c.args.inputs.now; tells = D.tells; before = D.seen c.args.disk.now } in
+    subst (λ (k : Command). Explains x (D.seen c.query.new.disk) (λ name. Rose (I.faults c.args.inputs.now name) (I.faults c.args.inputs.now name)) (DiskRose (D.faults c.args.disk.now) (D.faults c.query.new.disk)) (Rose (O.faults c.args.out.now) (O.faults c.query.new.out)) (said k) (status_of c.query.result)) (sym c.in-Query.is) (c.query.ensures.explained (I.told c.args.inputs.now))
+
+pub returns-in-Dump-clause-explained : goal.returns-in-Dump-clause-explained
+returns-in-Dump-clause-explained g c =
+    let D = g.D.Disk in
+    let I = g.I.Inputs in
+    let O = g.O.Sink in
+    let x : Given = record { told = I.told c.args.inputs.now; tells = D.tells; before = D.seen c.args.disk.now } in
+    subst (λ (k : Command). Explains x (D.seen c.dump.new.disk) (λ name. Rose (I.faults c.args.inputs.now name) (I.faults c.args.inputs.now name)) (DiskRose (D.faults c.args.disk.now) (D.faults c.dump.new.disk)) (Rose (O.faults c.args.out.now) (O.faults c.dump.new.out)) (said k) (status_of c.dump.result)) (sym c.in-Dump.is) (c.dump.ensures.explained (I.told c.args.inputs.now))
+
+pub returns-in-Parts-clause-explained : goal.returns-in-Parts-clause-explained
+returns-in-Parts-clause-explained g c =
+    let D = g.D.Disk in
+    let I = g.I.Inputs in
+    let O = g.O.Sink in
+    let x : Given = record { told = I.told c.args.inputs.now; tells = D.tells; before = D.seen c.args.disk.now } in
+    subst (λ (k : Command). Explains x (D.seen c.parts.new.disk) (λ name. Rose (I.faults c.args.inputs.now name) (I.faults c.args.inputs.now name)) (DiskRose (D.faults c.args.disk.now) (D.faults c.parts.new.disk)) (Rose (O.faults c.args.out.now) (O.faults c.parts.new.out)) (said k) (status_of c.parts.result)) (sym c.in-Parts.is) (c.parts.ensures.explained (I.told c.args.inputs.now))

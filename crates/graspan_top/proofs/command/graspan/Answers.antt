@@ -1,0 +1,68 @@
+use Rattle.std.proofs.Common.{◌≡◌, ℕ, ◌≤◌, List, Option, refl, sym, subst, ◌∙◌, arith}
+use Rattle.disk_model.specs.Disk.{Contents, Rose as DiskRose}
+use Rattle.io_edge.specs.Devices.{Rose}
+use Rattle.command_words.specs.Command.{Said, run, said}
+use Rattle.command_words.proofs.ReadingLemmas.{one_reading}
+use Rattle.graspan_top.specs.Command.{Explains, IsTextOf}
+use Rattle.graspan_top.specs.Faults.{of_words}
+use Rattle.graspan_top.specs.Given.{Given}
+use Rattle.graspan_top.specs.Printing.{Prints, PrintsFirst, status_of}
+use Rattle.graspan_top.specs.declared.status.Status.{Status}
+use Rattle.graspan_top.proofs.CommandLemmas.{said_later, words_back, words_explain}
+use Rattle.graspan_top.proofs.ExplainLemmas.{rose_later}
+use Rattle.graspan_top.proofs.PrintLemmas.{ends_later, prints}
+use Rattle.graspan_top.proofs.command.graspan.Goals as goal
+
+pub returns-in-Ok-clause-explained : goal.returns-in-Ok-clause-explained
+returns-in-Ok-clause-explained g c = λ d reading.
+    let D = g.D.Disk in
+    let I = g.I.Inputs in
+    let O = g.O.Sink in
+    let x : Given = record { told = I.told c.args.inputs.now; tells = D.tells; before = D.seen c.args.disk.now } in
+    let reads = λ (name : List ℕ). Rose (I.faults c.args.inputs.now name) (I.faults c.carry_out-ended.new.inputs name) in
+    let dr : Type 0 = DiskRose (D.faults c.args.disk.now) (D.faults c.carry_out-ended.new.disk) in
+    let after = D.seen c.carry_out-ended.new.disk in
+    let same : said c.in-Ok.command ≡ d = one_reading c.args.words.now (said c.in-Ok.command) d c.in-Ok.ensures.reading reading in
+    let wr : Type 0 = Rose (O.faults c.args.out.now) (O.faults c.carry_out-ended.new.out) in
+    let wr' : Type 0 = Rose (O.faults c.args.out.now) (O.faults c.end.new.out) in
+    let more = rose_later (O.faults c.args.out.now) (O.faults c.args.out.now) (O.faults c.carry_out-ended.new.out) (O.faults c.end.new.out) (omega arith) c.end.ensures.writes in
+    subst (λ (k : Said). Explains x after reads dr wr' k c.end.result) same
+    (subst (λ (s : Status). Explains x after reads dr wr' (said c.in-Ok.command) s) (sym c.end.ensures.status)
+    (said_later x after reads dr wr wr' more (said c.in-Ok.command) (status_of c.carry_out-ended.result) c.carry_out-ended.ensures.explained))
+
+pub returns-in-Ok-clause-printed : goal.returns-in-Ok-clause-printed
+returns-in-Ok-clause-printed g c = λ d reading.
+    let D = g.D.Disk in
+    let O = g.O.Sink in
+    let after = D.seen c.carry_out-ended.new.disk in
+    let same : said c.in-Ok.command ≡ d = one_reading c.args.words.now (said c.in-Ok.command) d c.in-Ok.ensures.reading reading in
+    let old = O.told c.args.out.now in
+    let mid = O.told c.carry_out-ended.new.out in
+    let new = O.told c.end.new.out in
+    let late : Type 0 = Rose (O.faults c.carry_out-ended.new.out) (O.faults c.end.new.out) in
+    let rose : Type 0 = Rose (O.faults c.args.out.now) (O.faults c.end.new.out) in
+    let more = rose_later (O.faults c.args.out.now) (O.faults c.carry_out-ended.new.out) (O.faults c.end.new.out) (O.faults c.end.new.out) c.carry_out-ended.ensures.writes (omega arith) in
+    let first : PrintsFirst D.tells (IsTextOf after (said c.in-Ok.command)) old mid c.end.result = subst (λ (s : Status). PrintsFirst D.tells (IsTextOf after (said c.in-Ok.command)) old mid s) (sym c.end.ensures.status) c.carry_out-ended.ensures.printed in
+    subst (λ (k : Said). Prints D.tells (IsTextOf after k) old new rose c.end.result) same
+    (prints D.tells (IsTextOf after (said c.in-Ok.command)) old mid new rose c.end.result first (ends_later mid new late rose more c.end.result c.end.ensures.ends))
+
+pub returns-in-Ok-clause-exact : goal.returns-in-Ok-clause-exact
+returns-in-Ok-clause-exact g c = λ edges grammar options show reading tells gt et tg te left done.
+    let same : said c.in-Ok.command ≡ run edges grammar options show = one_reading c.args.words.now (said c.in-Ok.command) (run edges grammar options show) c.in-Ok.ensures.reading reading in
+    c.carry_out-ended.ensures.exact edges grammar options show same tells gt et tg te left (sym c.end.ensures.status ∙ done)
+
+pub returns-in-Err-clause-words : goal.returns-in-Err-clause-words
+returns-in-Err-clause-words g c = λ is d reading.
+    c.in-Err.ensures.words (words_back c.in-Err.fault (sym c.from.ensures ∙ sym c.end-in-Err.ensures.status ∙ is)) d reading
+
+pub returns-in-Err-clause-explained : goal.returns-in-Err-clause-explained
+returns-in-Err-clause-explained g c = λ d reading.
+    let D = g.D.Disk in
+    let I = g.I.Inputs in
+    let O = g.O.Sink in
+    let x : Given = record { told = I.told c.args.inputs.now; tells = D.tells; before = D.seen c.args.disk.now } in
+    let reads = λ (name : List ℕ). Rose (I.faults c.args.inputs.now name) (I.faults c.args.inputs.now name) in
+    let dr : Type 0 = DiskRose (D.faults c.args.disk.now) (D.faults c.args.disk.now) in
+    let wr : Type 0 = Rose (O.faults c.args.out.now) (O.faults c.end-in-Err.new.out) in
+    subst (λ (s : Status). Explains x (D.seen c.args.disk.now) reads dr wr d s) (sym (c.end-in-Err.ensures.status ∙ c.from.ensures))
+    (words_explain x (D.seen c.args.disk.now) reads dr wr c.in-Err.fault (λ e. c.in-Err.ensures.words e d reading) d)

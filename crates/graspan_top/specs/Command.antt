@@ -1,0 +1,30 @@
+-- What each command answers and prints.
+use Rattle.std.specs.Prelude.{ℕ, List, Option}
+use Rattle.disk_model.specs.Disk.{Contents}
+use Rattle.command_words.specs.Command.{Said, run, query, dump, parts}
+use Rattle.graspan_top.specs.Given.{Given}
+use Rattle.graspan_top.specs.Printing.{Prints}
+use Rattle.graspan_top.specs.Run.{IsRunText, RunExplains}
+use Rattle.graspan_top.specs.Looking.{DumpExplains, IsDumpText, IsPartsText, IsQueryText, PartsExplains, QueryExplains}
+use Rattle.graspan_top.specs.declared.status.Status.{Status}
+
+-- why the command has this answer: reads_rose says of a name that its count of faults rose
+abbrev pub Explains : Given → Contents → (List ℕ → Type 0) → Type 0 → Type 0 → Said → Status → Type 0
+Explains x after reads_rose disk_rose out_rose (run edges grammar options show) status = RunExplains x edges grammar show after (reads_rose edges) (reads_rose grammar) disk_rose out_rose status
+Explains x after reads_rose disk_rose out_rose (query label from to) status = QueryExplains x label from to disk_rose out_rose status
+Explains x after reads_rose disk_rose out_rose dump status = DumpExplains x disk_rose out_rose status
+Explains x after reads_rose disk_rose out_rose parts status = PartsExplains x disk_rose out_rose status
+
+-- what it prints of what the disk holds then
+abbrev pub IsTextOf : Contents → Said → List ℕ → Type 0
+IsTextOf c (run edges grammar options show) text = IsRunText c show text
+IsTextOf c (query label from to) text = IsQueryText c label from to text
+IsTextOf c dump text = IsDumpText c text
+IsTextOf c parts text = IsPartsText c text
+
+-- a command that only reads
+abbrev pub IsLook : Said → Type 0
+IsLook (run edges grammar options show) = ⊥
+IsLook (query label from to) = Unit {0}
+IsLook dump = Unit {0}
+IsLook parts = Unit {0}

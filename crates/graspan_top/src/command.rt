@@ -1,0 +1,145 @@
+//! The command that words mean.
+ghost use Rattle.std.specs.Prelude.{◌≡◌, ◌≢◌, true, false, ◌⊎◌, ◌≤◌, ℕ, List, Option, Some, IsTrue, OnOk};
+ghost use Rattle.io_edge.specs.Devices.{Rose};
+ghost use Rattle.disk_model.specs.Disk.{Contents, Rose as DiskRose};
+ghost use Rattle.manifest_switch.specs.Looks.{OnlyLooks};
+ghost use Rattle.store_law.specs.Left.{IsLeft};
+ghost use Rattle.store_law.specs.Listed.{AreExact};
+ghost use Rattle.store.specs.Import.{texts_of};
+ghost use Rattle.closer.specs.declared.options.RunOptions.{RunOptions as TheOptions};
+ghost use Rattle.command_words.specs.Command.{Reading, Said, run as runs, said};
+ghost use Rattle.graspan_top.specs.declared.status.Status.TheVariants.{Done, NoMemory, Words, WriteFault};
+ghost use Rattle.graspan_top.specs.Command.{Explains, IsLook, IsTextOf};
+ghost use Rattle.graspan_top.specs.Given.{Given as AGiven};
+ghost use Rattle.graspan_top.specs.Printing.{Ends as EndsAs, Prints, PrintsFirst, status_of as the_status};
+
+use crate::looking::{Ends, dump, parts, query};
+use crate::print::print_fault;
+use crate::readying::Files;
+use crate::running::run;
+use crate::status::Status;
+use command_words::{Command, read_command};
+use disk_model::Disk;
+use io_edge::{Inputs, Sink, WordList};
+use std::alloc::Global;
+
+/// Carries a command out.
+fn carry_out<I: Inputs, D: Disk, O: Sink>(
+    alloc: Global,
+    command: Command<'_>,
+    inputs: &mut I,
+    disk: &mut D,
+    out: &mut O,
+) -> Result<(), Status>
+    ensures explained { Explains (record { told = I.told inputs.old; tells = D.tells; before = D.seen disk.old }) (D.seen disk.new) (λ name. Rose (I.faults inputs.old name) (I.faults inputs.new name)) (DiskRose (D.faults disk.old) (D.faults disk.new)) (Rose (O.faults out.old) (O.faults out.new)) (said command.entry) (the_status result) }
+    ensures printed { PrintsFirst D.tells (IsTextOf (D.seen disk.new) (said command.entry)) (O.told out.old) (O.told out.new) (the_status result) }
+    ensures exact { (edges grammar : List ℕ) (options : TheOptions) (show : Option (List ℕ)) → said command.entry ≡ runs edges grammar options show → IsTrue D.tells → (g e : List ℕ) → I.told inputs.old grammar ≡ Some g → I.told inputs.old edges ≡ Some e → IsLeft (texts_of g e) (D.seen disk.old)
+        → the_status result ≡ Done → AreExact (texts_of g e) (D.seen disk.new) × ((c : Contents) → D.may_leave disk.new c → AreExact (texts_of g e) c) }
+    ensures looks { IsLook (said command.entry) → OnlyLooks D.seen D.may_leave D.moment D.left_since disk.old disk.new }
+    ensures kept { I.told inputs.new ≡ I.told inputs.old }
+    ensures others { (other : List ℕ) → I.faults inputs.old other ≤ I.faults inputs.new other }
+    ensures later { D.faults disk.old ≤ D.faults disk.new }
+    ensures writes { O.faults out.old ≤ O.faults out.new }
+{
+    match command {
+        Command::Run {
+            edges,
+            grammar,
+            options,
+            show,
+        } => run(
+            alloc,
+            &Files { edges, grammar },
+            &options,
+            show,
+            inputs,
+            disk,
+            out,
+        ),
+        Command::Query { label, from, to } => query(alloc, disk, label, Ends { from, to }, out),
+        Command::Dump => dump(alloc, disk, out),
+        Command::Parts => parts(alloc, disk, out),
+    }
+}
+
+/// How a command ended.
+fn status_of(ended: Result<(), Status>) -> Status
+    ensures { result ≡ the_status ended }
+{
+    match ended {
+        Ok(()) => Status::Done,
+        Err(status) => status,
+    }
+}
+
+/// Whether a status has no line.
+fn is_silent(status: Status) -> bool
+    ensures silent { result ≡ true → (status ≡ Done) ⊎ (status ≡ WriteFault) }
+    ensures told { result ≡ false → (status ≢ Done) × (status ≢ WriteFault) }
+{
+    status == Status::Done || status == Status::WriteFault
+}
+
+/// Prints the line of a fault, where it has one.
+fn end<O: Sink>(out: &mut O, ended: Result<(), Status>) -> Status
+    ensures status { result ≡ the_status ended }
+    ensures ends { EndsAs (O.told out.old) (O.told out.new) (Rose (O.faults out.old) (O.faults out.new)) result }
+    ensures writes { O.faults out.old ≤ O.faults out.new }
+{
+    let status = status_of(ended);
+    if is_silent(status) {
+        return status;
+    }
+    print_fault(out, status);
+    status
+}
+
+/// Carries out what words say: `run`, `query`, `dump` or `parts`, on the store that the disk holds.
+///
+/// `run EDGES GRAMMAR` imports both files to a blank disk, or finds the store that a run of them has
+/// left, closes the edge file's graph under the grammar file's rules, and prints the partitions, how
+/// many edges each label has, and the edges of the label of `--show`. At Done the partition files list
+/// each (u, A, v) such that some path from u to v spells a word that A derives, once, and no other.
+/// `query LABEL U [V]` prints the vertices that a label reaches from a vertex, `dump` each edge, and
+/// `parts` the partitions and the state. These three only read.
+///
+/// All files come from outside and may hold any bytes. Refusals come in this order. `run`: the words;
+/// the grammar file read, then checked; the slots of the store, and its copy of the grammar; on an open
+/// store the grammar compared, then the edges; on a blank one the edge file read and checked; the
+/// closing; the label of `--show`; the printing. `query` and `dump`: the words; the slots and the copy;
+/// no store; work left; what is not known; the reading and printing. `parts` asks nothing of work left.
+/// A fault that is found before the printing prints its one line alone.
+pub fn graspan<I: Inputs, D: Disk, O: Sink>(
+    alloc: Global,
+    words: &WordList,
+    inputs: &mut I,
+    disk: &mut D,
+    out: &mut O,
+) -> Status
+    // Words are refused exactly where they have no reading, and then nothing is looked at.
+    ensures words { result ≡ Words → (c : Said) → Reading words.now c → ⊥ }
+    ensures unread { ((c : Said) → Reading words.now c → ⊥) → ((result ≡ Words) ⊎ (result ≡ NoMemory)) × (inputs.new ≡ inputs.old) × (disk.new ≡ disk.old) × EndsAs (O.told out.old) (O.told out.new) (Rose (O.faults out.old) (O.faults out.new)) result }
+
+    // Else each answer has its cause in the files, in what the disk holds, or in a count of faults.
+    ensures explained { (c : Said) → Reading words.now c → Explains (record { told = I.told inputs.old; tells = D.tells; before = D.seen disk.old }) (D.seen disk.new) (λ name. Rose (I.faults inputs.old name) (I.faults inputs.new name)) (DiskRose (D.faults disk.old) (D.faults disk.new)) (Rose (O.faults out.old) (O.faults out.new)) c result }
+
+    // The command's text is printed at Done, and a prefix of it or nothing before the line of a fault.
+    ensures printed { (c : Said) → Reading words.now c → Prints D.tells (IsTextOf (D.seen disk.new) c) (O.told out.old) (O.told out.new) (Rose (O.faults out.old) (O.faults out.new)) result }
+
+    // Where the disk held what stopped runs of these files leave, or nothing, a run that is done leaves exactly the closure.
+    ensures exact { (edges grammar : List ℕ) (options : TheOptions) (show : Option (List ℕ)) → Reading words.now (runs edges grammar options show) → IsTrue D.tells → (g e : List ℕ) → I.told inputs.old grammar ≡ Some g → I.told inputs.old edges ≡ Some e → IsLeft (texts_of g e) (D.seen disk.old)
+        → result ≡ Done → AreExact (texts_of g e) (D.seen disk.new) × ((c : Contents) → D.may_leave disk.new c → AreExact (texts_of g e) c) }
+
+    // The other commands change nothing.
+    ensures looks { (c : Said) → Reading words.now c → IsLook c → OnlyLooks D.seen D.may_leave D.moment D.left_since disk.old disk.new }
+    ensures kept { I.told inputs.new ≡ I.told inputs.old }
+    ensures later { D.faults disk.old ≤ D.faults disk.new }
+{
+    match read_command(alloc, words) {
+        Ok(command) => {
+            let ended = carry_out(alloc, command, inputs, disk, out);
+            end(out, ended)
+        }
+        Err(fault) => end(out, Err(Status::from(fault))),
+    }
+}
