@@ -151,83 +151,57 @@ fn finished_text(alloc: Global, call: Call) -> Result<(Vec<u8>, Option<u64>), Fa
 }
 
 #[test]
-fn an_imported_store_is_printed(rt: HostRuntime) -> Result<(), Fail> {
+fn an_imported_path_is_printed(rt: HostRuntime) -> Result<(), Fail> {
     let cases = [
         (
-            b"0 1 a\n1 2 b\n".as_slice(),
-            b"S a b\n".as_slice(),
             1_000_000,
             Call::Head,
             b"vertices 3\npart 0 0 3 2\n".as_slice(),
         ),
         (
-            b"0 1 a\n1 2 b\n",
-            b"S a b\n",
             1_000_000,
             Call::Parts,
             b"vertices 3\npart 0 0 3 2\nunfinished 0 0\n",
         ),
+        (1, Call::Head, b"vertices 3\npart 0 0 1 1\npart 1 1 3 1\n"),
         (
-            b"0 1 a\n1 2 b\n",
-            b"S a b\n",
-            1,
-            Call::Head,
-            b"vertices 3\npart 0 0 1 1\npart 1 1 3 1\n",
-        ),
-        (
-            b"0 1 a\n1 2 b\n",
-            b"S a b\n",
             1,
             Call::Parts,
             b"vertices 3\npart 0 0 1 1\npart 1 1 3 1\nunfinished 0 1\n",
         ),
+        (1, Call::Tally, b"label S 0\nlabel a 1\nlabel b 1\n"),
+        (1, Call::Dump, b"0 1 a\n1 2 b\n"),
+    ];
+    for (limit, call, wanted) in cases {
+        let text = text_of(rt.alloc(), b"0 1 a\n1 2 b\n", b"S a b\n", limit, call)?;
+        assert!(rt; text.as_slice() == wanted);
+    }
+    Ok(())
+}
+
+#[test]
+fn loops_of_an_empty_rule_are_printed(rt: HostRuntime) -> Result<(), Fail> {
+    let loops = b"0 2 x\n".as_slice();
+    let cases = [
         (
-            b"0 1 a\n1 2 b\n",
-            b"S a b\n",
-            1,
-            Call::Tally,
-            b"label S 0\nlabel a 1\nlabel b 1\n",
-        ),
-        (
-            b"0 1 a\n1 2 b\n",
-            b"S a b\n",
-            1,
-            Call::Dump,
-            b"0 1 a\n1 2 b\n",
-        ),
-        (
-            b"",
-            b"S\n",
+            b"".as_slice(),
             1_000_000,
             Call::Parts,
-            b"vertices 0\nfinished\n",
+            b"vertices 0\nfinished\n".as_slice(),
         ),
-        (b"", b"S\n", 1_000_000, Call::Tally, b"label S 0\n"),
+        (b"", 1_000_000, Call::Tally, b"label S 0\n"),
+        (loops, 1_000_000, Call::Tally, b"label S 3\nlabel x 1\n"),
         (
-            b"0 2 x\n",
-            b"S\n",
-            1_000_000,
-            Call::Tally,
-            b"label S 3\nlabel x 1\n",
-        ),
-        (
-            b"0 2 x\n",
-            b"S\n",
+            loops,
             1_000_000,
             Call::Answers(None, None),
             b"answer 0 0\nanswer 1 1\nanswer 2 2\n",
         ),
-        (
-            b"0 2 x\n",
-            b"S\n",
-            1,
-            Call::Answers(Some(1), None),
-            b"answer 1 1\n",
-        ),
-        (b"0 2 x\n", b"S\n", 1, Call::Answers(Some(1), Some(2)), b""),
+        (loops, 1, Call::Answers(Some(1), None), b"answer 1 1\n"),
+        (loops, 1, Call::Answers(Some(1), Some(2)), b""),
     ];
-    for (edges, grammar, limit, call, wanted) in cases {
-        let text = text_of(rt.alloc(), edges, grammar, limit, call)?;
+    for (edges, limit, call, wanted) in cases {
+        let text = text_of(rt.alloc(), edges, b"S\n", limit, call)?;
         assert!(rt; text.as_slice() == wanted);
     }
     Ok(())
