@@ -24,7 +24,7 @@ use Rattle.query_text.specs.Answered.{IsBlamed}
 use Rattle.graspan_top.specs.Faults.{of_store}
 use Rattle.graspan_top.specs.Given.{Given, WhereTold}
 use Rattle.graspan_top.specs.Printing.{status_of}
-use Rattle.graspan_top.specs.Run.{Accepts, Blames, DiffersIn, IsGoodGrammar, IsOpenedAs, IsUnknown, RunExplains, opening, closing, printing}
+use Rattle.graspan_top.specs.Run.{Accepts, BeginsWith, Blames, DiffersIn, IsGoodGrammar, IsOpenedAs, IsUnknown, RunExplains, opening, closing, printing}
 use Rattle.graspan_top.specs.Stages.{CompareExplains, DiffersFrom, IsCopied, IsGrammarFile, RefusesGrammar, ShowExplains}
 use Rattle.graspan_top.specs.declared.status.Status.{Status}
 use Rattle.graspan_top.specs.declared.status.Status.TheVariants.{Done, Words, InputFault, OtherInput, ReadFault, DiskFault, WriteFault, NoMemory, BadStore, NoStore, Unfinished, NotKnown}
@@ -127,17 +127,17 @@ module _ (x : Given) (edges grammar : List ℕ) where
   good_of (inr old) g told = (old.same_grammar g told).0
 
   -- the closing is refused
-  close_explains : (T : Type 0) → Accepts x edges grammar → (show : Option (List ℕ)) (after : Contents) (er gr wr : Type 0) (before now : ℕ) (seen : Contents) (s : OpenStore) → (IsTrue x.tells → IsOpenedAs x edges grammar seen s) → (f : StoreFault) → HasDiskCause {T = T} before now (BlamesOnTheWay s x.tells seen) (Err f) → RunExplains x edges grammar show after er gr (DiskRose before now) wr (of_store f)
-  close_explains T a show after er gr wr before now seen s begun stores.ReadFault h = absurd h
-  close_explains T a show after er gr wr before now seen s begun stores.DiskFault h = (good_of a, h)
-  close_explains T a show after er gr wr before now seen s begun (stores.InputFault file line kind) h = absurd h
-  close_explains T a show after er gr wr before now seen s begun (stores.OtherInput file place) h = absurd h
-  close_explains T a show after er gr wr before now seen s begun (stores.BadStore f p k) h = (good_of a, λ tells. closing seen s (begun tells) (subst (λ (b : Bool). BlamesOnTheWay s b seen f p k) tells h))
-  close_explains T a show after er gr wr before now seen s begun stores.NoMemory h = tt
+  close_explains : (T : Type 0) → Accepts x edges grammar → (show : Option (List ℕ)) (after : Contents) (er gr wr : Type 0) (before now : ℕ) (seen : Contents) (s : OpenStore) → (IsTrue x.tells → BeginsWith x seen) → (IsTrue x.tells → IsOpenedAs x edges grammar seen s) → (f : StoreFault) → HasDiskCause {T = T} before now (BlamesOnTheWay s x.tells seen) (Err f) → RunExplains x edges grammar show after er gr (DiskRose before now) wr (of_store f)
+  close_explains T a show after er gr wr before now seen s from begun stores.ReadFault h = absurd h
+  close_explains T a show after er gr wr before now seen s from begun stores.DiskFault h = (good_of a, h)
+  close_explains T a show after er gr wr before now seen s from begun (stores.InputFault file line kind) h = absurd h
+  close_explains T a show after er gr wr before now seen s from begun (stores.OtherInput file place) h = absurd h
+  close_explains T a show after er gr wr before now seen s from begun (stores.BadStore f p k) h = (good_of a, λ tells. closing seen s (from tells) (begun tells) (subst (λ (b : Bool). BlamesOnTheWay s b seen f p k) tells h))
+  close_explains T a show after er gr wr before now seen s from begun stores.NoMemory h = tt
 
-  pub close_handed : (T : Type 0) → Accepts x edges grammar → (show : Option (List ℕ)) (after : Contents) (er gr dr' wr : Type 0) (before now : ℕ) (seen : Contents) (s : OpenStore) → (IsTrue x.tells → IsOpenedAs x edges grammar seen s) → (DiskRose before now → dr') → (r : Result T StoreFault) (f : StoreFault) → r ≡ Err f → HasDiskCause before now (BlamesOnTheWay s x.tells seen) r → RunExplains x edges grammar show after er gr dr' wr (of_store f)
-  close_handed T a show after er gr dr' wr before now seen s begun more r f was h =
-      explains_later show after er gr (DiskRose before now) wr er gr dr' wr (λ k. k) (λ k. k) more (λ k. k) (of_store f) (close_explains T a show after er gr wr before now seen s begun f (subst (HasDiskCause before now (BlamesOnTheWay s x.tells seen)) was h))
+  pub close_handed : (T : Type 0) → Accepts x edges grammar → (show : Option (List ℕ)) (after : Contents) (er gr dr' wr : Type 0) (before now : ℕ) (seen : Contents) (s : OpenStore) → (IsTrue x.tells → BeginsWith x seen) → (IsTrue x.tells → IsOpenedAs x edges grammar seen s) → (DiskRose before now → dr') → (r : Result T StoreFault) (f : StoreFault) → r ≡ Err f → HasDiskCause before now (BlamesOnTheWay s x.tells seen) r → RunExplains x edges grammar show after er gr dr' wr (of_store f)
+  close_handed T a show after er gr dr' wr before now seen s from begun more r f was h =
+      explains_later show after er gr (DiskRose before now) wr er gr dr' wr (λ k. k) (λ k. k) more (λ k. k) (of_store f) (close_explains T a show after er gr wr before now seen s from begun f (subst (HasDiskCause before now (BlamesOnTheWay s x.tells seen)) was h))
 
   pub show_explains : (show : Option (List ℕ)) (after : Contents) (er gr dr wr : Type 0) (s : OpenStore) → Accepts x edges grammar → IsDone s.manifest → (IsTrue x.tells → IsOpenedAs x edges grammar after s) → (IsTrue x.tells → current_of after ≡ Ok (At s.slot s.manifest)) → (status : Status) → ShowExplains s x.tells after show dr wr status → RunExplains x edges grammar show after er gr dr wr status
   show_explains show after er gr dr wr s a done begun current Done h = a

@@ -15,6 +15,7 @@ use Rattle.manifest.specs.declared.types.Manifest.{Manifest}
 use Rattle.manifest_switch.specs.declared.slot.Slot.{Slot}
 use Rattle.manifest_switch.specs.declared.slot.Found.TheVariants.{At, Blank}
 use Rattle.manifest_switch.specs.Slots.{current_of}
+use Rattle.manifest_switch.specs.Steps.{Stays}
 use Rattle.store_law.specs.Texts.{AreGood, Texts}
 use Rattle.store_law.specs.Listed.{AreListed}
 use Rattle.store_law.specs.Left.{IsDone, IsLeft, IsStoreOf}
@@ -86,6 +87,10 @@ pub record IsOpenedAs (x : Given) (edges grammar : List ℕ) (seen : Contents) (
   pub held : IsHeld s seen
   pub left : (g e : List ℕ) → x.told grammar ≡ Some g → x.told edges ≡ Some e → IsLeft (texts_of g e) x.before → (parts : List (List Born)) × IsStoreOf (texts_of g e) seen s.manifest parts
 
+-- the contents with which the closing begins: those from before, but for the slots, or a store that was made on a blank disk
+abbrev pub BeginsWith : Given → Contents → Type 0
+BeginsWith x seen = (current_of x.before ≡ Ok Blank) ⊎ Stays x.before seen
+
 -- ---- why a run answers as it does
 
 -- an open store's copy of a text differs from the file first at this place. Of the edges this is said where the grammar is the same.
@@ -97,7 +102,7 @@ DiffersIn x edges grammar m Source place = ⊥
 -- why a file of the store is blamed: opening refuses it, or it names no partition where one is loaded for the closing or the printing
 pub data Blames (x : Given) (edges grammar : List ℕ) (after : Contents) : ℕ → ℕ → FormKind → Type 0 where
   opening : {file place : ℕ} {kind : FormKind} → IsBadStore x.before file place kind → Blames x edges grammar after file place kind
-  closing : {file place : ℕ} {kind : FormKind} (seen : Contents) (s : OpenStore) → IsOpenedAs x edges grammar seen s → BlamesOnTheWay s true seen file place kind → Blames x edges grammar after file place kind
+  closing : {file place : ℕ} {kind : FormKind} (seen : Contents) (s : OpenStore) → BeginsWith x seen → IsOpenedAs x edges grammar seen s → BlamesOnTheWay s true seen file place kind → Blames x edges grammar after file place kind
   printing : {file place : ℕ} {kind : FormKind} (s : OpenStore) → IsOpenedAs x edges grammar after s → IsBlamed s true after 0 (length s.manifest.parts) file place kind → Blames x edges grammar after file place kind
 
 -- the label that is shown has no number in the store that was closed

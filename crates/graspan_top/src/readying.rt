@@ -1,5 +1,5 @@
 //! A store of two files is made, or found and compared with them.
-ghost use Rattle.std.specs.Prelude.{◌≡◌, ◌≢◌, ◌≤◌, ℕ, List, Option, IfOk, IfErr, OnOk};
+ghost use Rattle.std.specs.Prelude.{◌≡◌, ◌≢◌, ◌≤◌, ℕ, List, Option, IfOk, IfErr, OnOk, IsTrue};
 ghost use Rattle.disk_model.specs.Disk.{Contents, Rose as DiskRose};
 ghost use Rattle.io_edge.specs.Devices.{Rose};
 ghost use Rattle.io_edge.specs.declared.kinds.InputFile.TheVariants.{Edges, Grammar};
@@ -8,7 +8,7 @@ ghost use Rattle.open_store.specs.Answers.{copy_of};
 ghost use Rattle.graspan_top.specs.declared.status.Status.TheVariants.{Done};
 ghost use Rattle.graspan_top.specs.Faults.{of_store};
 ghost use Rattle.graspan_top.specs.Given.{Given as AGiven};
-ghost use Rattle.graspan_top.specs.Run.{RunExplains};
+ghost use Rattle.graspan_top.specs.Run.{BeginsWith, RunExplains};
 ghost use Rattle.graspan_top.specs.Stages.{CompareExplains, IsCopied, IsGrammarFile, IsReady};
 
 use crate::grammar_file::read_grammar_file;
@@ -64,6 +64,7 @@ fn found_or_made<I: Inputs, D: Disk>(
 ) -> Result<Store, StoreFault>
     requires { IsGrammarFile (I.told inputs.old files.now.grammar.now) grammar.now }
     ensures ready { IfOk result (IsReady (record { told = I.told inputs.old; tells = D.tells; before = D.seen disk.old }) files.now.edges.now files.now.grammar.now (D.seen disk.new) (D.may_leave disk.new)) }
+    ensures begins { IfOk result (λ _. IsTrue D.tells → BeginsWith (record { told = I.told inputs.old; tells = D.tells; before = D.seen disk.old }) (D.seen disk.new)) }
     ensures cause { IfErr result (λ fault. (show : Option (List ℕ)) (after : Contents) → RunExplains (record { told = I.told inputs.old; tells = D.tells; before = D.seen disk.old }) files.now.edges.now files.now.grammar.now show after
         (Rose (I.faults inputs.old files.now.edges.now) (I.faults inputs.new files.now.edges.now)) (Rose (I.faults inputs.old files.now.grammar.now) (I.faults inputs.new files.now.grammar.now)) (DiskRose (D.faults disk.old) (D.faults disk.new)) ⊥ (of_store fault)) }
     ensures kept { I.told inputs.new ≡ I.told inputs.old }
@@ -88,6 +89,7 @@ pub(crate) fn ready_store<I: Inputs, D: Disk>(
     disk: &mut D,
 ) -> Result<Store, Status>
     ensures ready { IfOk result (IsReady (record { told = I.told inputs.old; tells = D.tells; before = D.seen disk.old }) files.now.edges.now files.now.grammar.now (D.seen disk.new) (D.may_leave disk.new)) }
+    ensures begins { IfOk result (λ _. IsTrue D.tells → BeginsWith (record { told = I.told inputs.old; tells = D.tells; before = D.seen disk.old }) (D.seen disk.new)) }
     ensures cause { IfErr result (λ fault. (show : Option (List ℕ)) (after : Contents) → RunExplains (record { told = I.told inputs.old; tells = D.tells; before = D.seen disk.old }) files.now.edges.now files.now.grammar.now show after
         (Rose (I.faults inputs.old files.now.edges.now) (I.faults inputs.new files.now.edges.now)) (Rose (I.faults inputs.old files.now.grammar.now) (I.faults inputs.new files.now.grammar.now)) (DiskRose (D.faults disk.old) (D.faults disk.new)) ⊥ fault) }
     ensures fails { IfErr result (λ fault. fault ≢ Done) }

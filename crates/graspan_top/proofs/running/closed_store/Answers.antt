@@ -22,7 +22,7 @@ returns-in_err-run_to_end-clause-cause g c =
     (λ show after.
     close_handed x edges grammar OpenStore c.in_ok-store.ensures.ready.accepts show after
     (Rose (I.faults c.args.inputs.now edges) (I.faults c.ready_store.new.inputs edges)) (Rose (I.faults c.args.inputs.now grammar) (I.faults c.ready_store.new.inputs grammar))
-    (DiskRose (D.faults c.args.disk.now) (D.faults last)) ⊥ (D.faults mid) (D.faults last) (D.seen mid) c.in_ok-store.store c.in_ok-store.ensures.ready.opened
+    (DiskRose (D.faults c.args.disk.now) (D.faults last)) ⊥ (D.faults mid) (D.faults last) (D.seen mid) c.in_ok-store.store c.in_ok-store.ensures.begins c.in_ok-store.ensures.ready.opened
     (rose_later (D.faults c.args.disk.now) (D.faults mid) (D.faults last) (D.faults last) c.ready_store.ensures.later (omega arith))
     c.run_to_end.result c.in_err-run_to_end.field-0.0 c.in_err-run_to_end.was c.run_to_end.ensures.cause)
 
