@@ -1,18 +1,21 @@
 -- What a command explains, whichever it is.
-use Rattle.std.proofs.Common.{◌≡◌, ℕ, List, refl}
+use Rattle.std.proofs.Common.{◌≡◌, ℕ, List, Bool, Option, refl}
 use Rattle.disk_model.specs.Disk.{Contents}
 use Rattle.store_law.specs.Left.{IsDone}
 use Rattle.command_words.specs.declared.fault.WordsFault.{WordsFault}
 use Rattle.command_words.specs.declared.fault.WordsFault.TheVariants as words
 use Rattle.command_words.specs.Command.{Said, run, query, dump, parts}
-use Rattle.graspan_top.specs.Command.{Explains}
+use Rattle.graspan_top.specs.Command.{Explains, IsBegunOf}
 use Rattle.graspan_top.specs.Faults.{of_words}
 use Rattle.graspan_top.specs.Given.{Given}
-use Rattle.graspan_top.specs.Looking.{IsAny, IsKnownIn, IsUnfinished, IsUnknownIn, none_undone, none_unknown, wants_all, wants_none, wants_one}
+use Rattle.graspan_top.specs.Printing.{Begins}
+use Rattle.graspan_top.specs.Run.{IsRunBegun}
+use Rattle.graspan_top.specs.Looking.{IsAny, IsDumpFront, IsPartsText, IsQueryText, IsKnownIn, IsUnfinished, IsUnknownIn, none_undone, none_unknown, wants_all, wants_none, wants_one}
 use Rattle.graspan_top.specs.declared.status.Status.{Status}
 use Rattle.graspan_top.specs.declared.status.Status.TheVariants.{Words}
 use Rattle.graspan_top.proofs.ExplainLemmas.{explains_later}
 use Rattle.graspan_top.proofs.LookLemmas.{look_later}
+use Rattle.graspan_top.proofs.TextLemmas.{nothing_begun}
 
 module _ (x : Given) (after : Contents) (reads : List ℕ → Type 0) (dr wr : Type 0) where
   pub said_later : (wr' : Type 0) → (wr → wr') → (c : Said) (s : Status) → Explains x after reads dr wr c s → Explains x after reads dr wr' c s
@@ -32,3 +35,10 @@ module _ (x : Given) (after : Contents) (reads : List ℕ → Type 0) (dr wr : T
 pub words_back : (f : WordsFault) → of_words f ≡ Words → f ≡ words.Words
 words_back words.Words e = refl
 words_back words.NoMemory e = absurd (cc)
+
+-- nothing was begun, whichever the command is
+pub nothing_begun_of : (known : Bool) (c : Contents) (d : Said) (old : Option (List ℕ)) (s : Status) → Begins known (IsBegunOf c d) old old s
+nothing_begun_of known c (run edges grammar options show) old s = nothing_begun known (IsRunBegun c show) old s
+nothing_begun_of known c (query label from to) old s = nothing_begun known (IsQueryText c label from to) old s
+nothing_begun_of known c dump old s = nothing_begun known (IsDumpFront c) old s
+nothing_begun_of known c parts old s = nothing_begun known (IsPartsText c) old s

@@ -1,7 +1,7 @@
 -- What is printed before and with the line of a fault.
 use Rattle.std.proofs.Common.{◌≡◌, inl, inr, ℕ, List, Bool, Option, refl, sym}
 use Rattle.query_text.proofs.Gathering.{nothing_taken}
-use Rattle.graspan_top.specs.Printing.{Ends, Prints, PrintsFirst, TakesLine, fault_line}
+use Rattle.graspan_top.specs.Printing.{Begins, BeginsWhole, Ends, Prints, PrintsFirst, TakesLine, fault_line}
 use Rattle.graspan_top.specs.declared.status.Status.{Status}
 use Rattle.graspan_top.specs.declared.status.Status.TheVariants.{Done, Words, InputFault, OtherInput, ReadFault, DiskFault, WriteFault, NoMemory, BadStore, NoStore, Unfinished, NotKnown}
 
@@ -69,3 +69,19 @@ loud_ends old new rose (Unfinished i j) a b line = line
 loud_ends old new rose NotKnown a b line = line
 loud_ends old new rose Done a b line = absurd (a refl)
 loud_ends old new rose WriteFault a b line = absurd (b refl)
+
+-- what was begun, and then how it ends
+module _ (known : Bool) (IsBegun : List ℕ → Type 0) where
+  pub begins : (old mid new : Option (List ℕ)) (rose : Type 0) (s : Status) → Begins known IsBegun old mid s → Ends mid new rose s → BeginsWhole known IsBegun old new rose s
+  begins old mid new rose WriteFault first same = rw same first
+  begins old mid new rose DiskFault first line = (mid, first, line)
+  begins old mid new rose (BadStore file place kind) first line = (mid, first, line)
+  begins old mid new rose NoMemory first line = (mid, first, line)
+  begins old mid new rose Done first line = tt
+  begins old mid new rose Words first line = tt
+  begins old mid new rose (InputFault file number kind) first line = tt
+  begins old mid new rose (OtherInput file place) first line = tt
+  begins old mid new rose ReadFault first line = tt
+  begins old mid new rose NoStore first line = tt
+  begins old mid new rose (Unfinished i j) first line = tt
+  begins old mid new rose NotKnown first line = tt

@@ -1,6 +1,6 @@
 -- The text of a run, piece by piece.
-use Rattle.std.proofs.Common.{◌≡◌, ℕ, ◌+◌, ◌<◌, ◌≤◌, Bool, List, [], ◌++◌, length, Option, Ok, Err, refl, sym, ◌∙◌, subst, arith}
-use Rattle.std.specs.Prelude.{IsTrue, IsErrAnd, Result, slice_index_or}
+use Rattle.std.proofs.Common.{◌≡◌, inl, inr, ℕ, ◌+◌, ◌<◌, ◌≤◌, Bool, List, [], ◌++◌, length, Option, Ok, Err, refl, sym, ◌∙◌, subst, arith}
+use Rattle.std.specs.Prelude.{IsTrue, IsErrAnd, OnErr, Result, slice_index_or}
 use Rattle.graph_words.specs.declared.types.Born.{Born}
 use Rattle.graph_words.specs.declared.types.LabelId.{LabelId}
 use Rattle.graph_words.specs.declared.types.Rule.{Rule}
@@ -21,14 +21,19 @@ use Rattle.query_text.specs.declared.fault.AnswerFault.TheVariants as answers
 use Rattle.query_text.specs.Text.{head_text, tally_text}
 use Rattle.query_text.specs.Answered.{AreListedIn, AreRead}
 use Rattle.graspan_top.specs.Faults.{of_answer}
-use Rattle.graspan_top.specs.Printing.{PrintsFirst, TakesPrefix}
-use Rattle.graspan_top.specs.Run.{IsEnd, IsRunText, IsShownText, done_line}
-use Rattle.graspan_top.specs.Stages.{shown_text}
+use Rattle.graspan_top.specs.Printing.{IsNothingOr, PrintsFirst, TakesBegun, TakesPrefix}
+use Rattle.graspan_top.specs.Run.{IsEnd, IsRunBegun, IsRunText, IsShownText, done_line}
+use Rattle.graspan_top.specs.Stages.{IsShowBegun, shown_text}
 
 -- what a call that failed has taken
 pub takes_err : {U E : Type 0} (old new : Option (List ℕ)) (r : Result U E) (e : E) (text : List ℕ) → IsErrAnd r (λ x. x ≡ e) → AppendsPrefix old new text → Takes old new r text
 takes_err old new (Ok y) e text is p = absurd is
 takes_err old new (Err y) e text is p = p
+
+-- what holds of a call that failed
+pub err_of : {U E : Type 0} (r : Result U E) (e : E) (P : Type 0) → IsErrAnd r (λ x. x ≡ e) → P → OnErr r P
+err_of (Ok y) e P is p = absurd is
+err_of (Err y) e P is p = p
 
 -- partitions that were all read are listed
 pub listed_of_read : (s : OpenStore) (tells : Bool) (c : Contents) (read : List (List Born)) → IsTrue tells → AreRead s tells c 0 read → length read ≡ length s.manifest.parts → AreListedIn s c read
@@ -79,3 +84,18 @@ fault_prints known IsText old new answers.DiskFault p = p
 fault_prints known IsText old new (answers.BadStore file place kind) p = p
 fault_prints known IsText old new answers.WriteFault p = p
 fault_prints known IsText old new answers.NoMemory p = p
+
+-- what was begun
+pub show_begun : (s : OpenStore) (tells : Bool) (c : Contents) (show : Option (List ℕ)) (shown : Option LabelId) (old new : Option (List ℕ)) → (IsTrue tells → IsHeld s c) → IsDone s.manifest → ((edges : List Born) → IsShownText s.manifest.labels edges show (shown_text shown edges)) → (IsTrue tells → (text : List ℕ) × IsShowBegun s tells c shown text × AppendsPrefix old new text) → TakesBegun tells (IsNothingOr (IsRunBegun c show)) old new
+show_begun s tells c show shown old new held done is begun t = go (begun t)
+  where
+    kind : (text : List ℕ) → IsShowBegun s tells c shown text → IsRunBegun c show text
+    kind text (inl front) = inl (record { store = s; held = held t; done = done; read = front.0; are_read = subst (λ (b : Bool). AreRead s b c 0 front.0) t front.1; printed = front.2 })
+    kind text (inr whole) = inr (subst (IsRunText c show) (sym whole.2) (some_text s c (held t) show shown done whole.0 whole.1 (is (all_edges whole.0))))
+
+    go : (text : List ℕ) × IsShowBegun s tells c shown text × AppendsPrefix old new text → (text : List ℕ) × IsNothingOr (IsRunBegun c show) text × AppendsPrefix old new text
+    go b = (b.0, inr (kind b.0 b.1), b.2)
+
+-- no partition was read yet
+pub none_read : (s : OpenStore) (tells : Bool) (c : Contents) → AreRead s tells c 0 []
+none_read s tells c = record { within = omega arith; each = λ i lt. absurd (omega arith) }

@@ -31,13 +31,15 @@ use Rattle.query_text.specs.Text.{IsStateLine, answers_in, answers_text, dump_te
 use Rattle.query_text.specs.Text.IsStateLine.{finished, unfinished}
 use Rattle.query_text.specs.declared.fault.AnswerFault.{AnswerFault}
 use Rattle.query_text.specs.declared.fault.AnswerFault.TheVariants as answers
+use Rattle.query_text.proofs.Gathering.{nothing_taken}
 use Rattle.query_text.proofs.Reading.{ends_within}
 use Rattle.query_text.proofs.Showing.{handed_on}
 use Rattle.graspan_top.specs.Faults.{of_answer}
-use Rattle.graspan_top.specs.Looking.{HasCurrent, IsDumpText, IsPartEnd, IsPartsText, IsQueryText, count_line}
-use Rattle.graspan_top.specs.Printing.{PrintsFirst, TakesPrefix, status_of}
+use Rattle.graspan_top.specs.Looking.{HasCurrent, IsDumpFront, IsDumpText, IsPartEnd, IsPartsText, IsQueryText, count_line}
+use Rattle.graspan_top.specs.Printing.{Begins, IsNothingOr, PrintsFirst, TakesBegun, TakesPrefix, status_of}
 use Rattle.graspan_top.specs.Run.{IsEnd}
 use Rattle.graspan_top.specs.declared.status.Status.{Status}
+use Rattle.graspan_top.specs.declared.status.Status.TheVariants.{Done, Words, InputFault, OtherInput, ReadFault, DiskFault, WriteFault, NoMemory, BadStore, NoStore, Unfinished, NotKnown}
 use Rattle.graspan_top.proofs.LookLemmas.{one_number, status_at}
 
 -- ---- a prefix of the text
@@ -51,6 +53,34 @@ part_printed tells IsText old new answers.NoMemory h = h
 -- a call that printed failed
 pub printed_short : {T : Type 0} (tells : Bool) (IsText : List ℕ → Type 0) (old new : Option (List ℕ)) (f : AnswerFault) (r : Result T Status) → IsErrAnd r (λ y. y ≡ of_answer f) → TakesPrefix tells IsText old new → PrintsFirst tells IsText old new (status_of r)
 printed_short tells IsText old new f r is h = status_at (λ (y : Status). PrintsFirst tells IsText old new y) r (of_answer f) is (part_printed tells IsText old new f h)
+
+begun_part : (tells : Bool) (IsBegun : List ℕ → Type 0) (old new : Option (List ℕ)) (f : AnswerFault) → TakesBegun tells IsBegun old new → Begins tells IsBegun old new (of_answer f)
+begun_part tells IsBegun old new answers.DiskFault h = h
+begun_part tells IsBegun old new (answers.BadStore file place kind) h = h
+begun_part tells IsBegun old new answers.WriteFault h = h
+begun_part tells IsBegun old new answers.NoMemory h = h
+
+pub begun_short : {T : Type 0} (tells : Bool) (IsBegun : List ℕ → Type 0) (old new : Option (List ℕ)) (f : AnswerFault) (r : Result T Status) → IsErrAnd r (λ y. y ≡ of_answer f) → TakesBegun tells IsBegun old new → Begins tells IsBegun old new (status_of r)
+begun_short tells IsBegun old new f r is h = status_at (λ (y : Status). Begins tells IsBegun old new y) r (of_answer f) is (begun_part tells IsBegun old new f h)
+
+-- nothing was begun
+module _ (tells : Bool) (IsText : List ℕ → Type 0) (old : Option (List ℕ)) where
+  none_begun : TakesBegun tells (IsNothingOr IsText) old old
+  none_begun t = ([], inl refl, nothing_taken old [])
+
+  pub nothing_begun : (s : Status) → Begins tells (IsNothingOr IsText) old old s
+  nothing_begun Done = tt
+  nothing_begun Words = tt
+  nothing_begun (InputFault file line kind) = tt
+  nothing_begun (OtherInput file place) = tt
+  nothing_begun ReadFault = tt
+  nothing_begun DiskFault = none_begun
+  nothing_begun WriteFault = none_begun
+  nothing_begun NoMemory = none_begun
+  nothing_begun (BadStore file place kind) = none_begun
+  nothing_begun NoStore = tt
+  nothing_begun (Unfinished i j) = tt
+  nothing_begun NotKnown = tt
 
 -- ---- what the contents hold is one store
 
@@ -101,6 +131,11 @@ parts_short s c tells state old new held is_state h text t is =
     let whole = is.printed ∙ ap (λ (m : Manifest). head_text m ++ is.state) same ∙ ap (λ (l : List ℕ). head_text s.manifest ++ l) (one_state s.manifest is.state state state_is is_state) in
     subst (λ (l : List ℕ). AppendsPrefix old new l) (sym whole) h
 
+pub parts_begun : (s : OpenStore) (c : Contents) (tells : Bool) (state : List ℕ) (old new : Option (List ℕ)) → (IsTrue tells → IsHeld s c) → IsStateLine s.manifest state → AppendsPrefix old new (head_text s.manifest ++ state) → TakesBegun tells (IsNothingOr (IsPartsText c)) old new
+parts_begun s c tells state old new held is_state h t =
+    let text : IsPartsText c (head_text s.manifest ++ state) = record { manifest = s.manifest; current = (s.slot, (held t).current); state = state; state_is = is_state; printed = refl } in
+    (head_text s.manifest ++ state, inr text, h)
+
 -- ---- dump
 
 module _ (s : OpenStore) (c now : Contents) (same : now ≡ c) (tells : Bool) (held : IsTrue tells → IsHeld s c) (old new : Option (List ℕ)) where
@@ -111,6 +146,12 @@ module _ (s : OpenStore) (c now : Contents) (same : now ≡ c) (tells : Bool) (h
       let here = subst (λ (rules : List Rule). AreListed c s.manifest (normal_form rules).fresh is.parts) (one_grammar s c (held t) end.rules end.grammar) end.listed in
       let part = listed t is.parts (subst (λ (x : Contents). AreListedIn s x is.parts) (sym same) here) in
       subst (λ (l : List ℕ). AppendsPrefix old new l) (sym (is.printed ∙ ap (λ (m : Manifest). dump_text m.labels (all_edges is.parts)) same_manifest)) part
+
+  pub dump_begun : (f : AnswerFault) (read : List (List Born)) → IsDone s.manifest → IsPrinted {T = Unit {0}} s tells now 0 (length s.manifest.parts) (dump_text s.manifest.labels) old new (Err f) read → TakesBegun tells (IsNothingOr (IsDumpFront c)) old new
+  dump_begun f read done p t =
+      let are = subst (λ (b : Bool). AreRead s b c 0 read) t (subst (λ (x : Contents). AreRead s tells x 0 read) same p.are_read) in
+      let front : IsDumpFront c (dump_text s.manifest.labels (all_edges read)) = record { store = s; held = held t; done = done; read = read; are_read = are; printed = refl } in
+      (dump_text s.manifest.labels (all_edges read), inr front, p.taken)
 
   -- all partitions were read
   read_listed : (read : List (List Born)) → IsTrue tells → AreRead s tells c 0 read → length read ≡ length s.manifest.parts → AreListedIn s c read
@@ -232,13 +273,21 @@ module _ (s : OpenStore) (tells : Bool) (label : LabelId) (from : ℕ) (to : Opt
         let printed = q.printed ∙ ap (λ (l : LabelId). answers_text l (Some from) to q.edges ++ count_line (length (answers_in l (Some from) to q.edges))) number_is in
         subst (λ (l : List ℕ). AppendsPrefix old new l) (sym printed) (short_read old new f q.edges read end p)
 
+    text_of : (name : List ℕ) (q : List Born) → slice_get s.manifest.labels label.0 ≡ Some name → IsDone s.manifest → AreRead s tells c asked (q ∷ []) → IsQueryText c name from to (whole q)
+    text_of name q is done are =
+        let r = first_read q [] are in
+        let end : IsPartEnd c s.manifest from q = record { current = (s.slot, held.current); rules = s.rules; grammar = held.grammar; done = done; spells = r.spells t; fits = r.fits } in
+        record { manifest = s.manifest; edges = q; end = end; number = label; is_number = is; printed = refl }
+
     whole_read : (name : List ℕ) (old new : Option (List ℕ)) (read : List (List Born)) → slice_get s.manifest.labels label.0 ≡ Some name → IsDone s.manifest → IsTaken {T = Unit {0}} c old new (Ok tt) read → (text : List ℕ) × IsQueryText c name from to text × Appends old new text
     whole_read name old new [] is done p = absurd (omega (arith, p.0.all))
-    whole_read name old new (q ∷ []) is done p =
-        let r = first_read q [] p.0.are_read in
-        let end : IsPartEnd c s.manifest from q = record { current = (s.slot, held.current); rules = s.rules; grammar = held.grammar; done = done; spells = r.spells t; fits = r.fits } in
-        (whole q, record { manifest = s.manifest; edges = q; end = end; number = label; is_number = is; printed = refl }, subst (λ (e : List Born). Appends old new (whole e)) (append-nil q) p.0.taken)
+    whole_read name old new (q ∷ []) is done p = (whole q, text_of name q is done p.0.are_read, subst (λ (e : List Born). Appends old new (whole e)) (append-nil q) p.0.taken)
     whole_read name old new (q ∷ r ∷ rest) is done p = absurd (omega (arith, p.0.few))
+
+    begun_read : (name : List ℕ) (old new : Option (List ℕ)) (f : AnswerFault) (read : List (List Born)) → slice_get s.manifest.labels label.0 ≡ Some name → IsDone s.manifest → IsTaken {T = Unit {0}} c old new (Err f) read → (text : List ℕ) × IsNothingOr (IsQueryText c name from to) text × AppendsPrefix old new text
+    begun_read name old new f [] is done p = ([], inl refl, p.1 refl)
+    begun_read name old new f (q ∷ []) is done p = (whole q, inr (text_of name q is done p.0.are_read), subst (λ (e : List Born). AppendsPrefix old new (whole e)) (append-nil q) p.0.taken)
+    begun_read name old new f (q ∷ r ∷ rest) is done p = absurd (omega (arith, p.0.few))
 
   module _ (o : IsOpenStore s) (c now : Contents) (same : now ≡ c) (held : IsTrue tells → IsHeld s c) (name : List ℕ) (is : slice_get s.manifest.labels label.0 ≡ Some name) (old new : Option (List ℕ)) (read : List (List Born)) where
     pub query_short : (f : AnswerFault) → IsTaken {T = Unit {0}} now old new (Err f) read → TakesPrefix tells (IsQueryText c name from to) old new
@@ -246,3 +295,6 @@ module _ (s : OpenStore) (tells : Bool) (label : LabelId) (from : ℕ) (to : Opt
 
     pub query_whole : IsDone s.manifest → IsTaken {T = Unit {0}} now old new (Ok tt) read → IsTrue tells → (text : List ℕ) × IsQueryText c name from to text × Appends old new text
     query_whole done p t = whole_read o c (held t) t name old new read is done (subst (λ (x : Contents). IsTaken {T = Unit {0}} x old new (Ok tt) read) same p)
+
+    pub query_begun : (f : AnswerFault) → IsDone s.manifest → IsTaken {T = Unit {0}} now old new (Err f) read → TakesBegun tells (IsNothingOr (IsQueryText c name from to)) old new
+    query_begun f done p t = begun_read o c (held t) t name old new f read is done (subst (λ (x : Contents). IsTaken {T = Unit {0}} x old new (Err f) read) same p)

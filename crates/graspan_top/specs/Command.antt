@@ -3,9 +3,9 @@ use Rattle.std.specs.Prelude.{ℕ, List, Option}
 use Rattle.disk_model.specs.Disk.{Contents}
 use Rattle.command_words.specs.Command.{Said, run, query, dump, parts}
 use Rattle.graspan_top.specs.Given.{Given}
-use Rattle.graspan_top.specs.Printing.{Prints}
-use Rattle.graspan_top.specs.Run.{IsRunText, RunExplains}
-use Rattle.graspan_top.specs.Looking.{DumpExplains, IsDumpText, IsPartsText, IsQueryText, PartsExplains, QueryExplains}
+use Rattle.graspan_top.specs.Printing.{IsNothingOr, Prints}
+use Rattle.graspan_top.specs.Run.{IsRunBegun, IsRunText, RunExplains}
+use Rattle.graspan_top.specs.Looking.{DumpExplains, IsDumpFront, IsDumpText, IsPartsText, IsQueryText, PartsExplains, QueryExplains}
 use Rattle.graspan_top.specs.declared.status.Status.{Status}
 
 -- why the command has this answer: reads_rose says of a name that its count of faults rose
@@ -28,3 +28,10 @@ IsLook (run edges grammar options show) = ⊥
 IsLook (query label from to) = Unit {0}
 IsLook dump = Unit {0}
 IsLook parts = Unit {0}
+
+-- what it may have begun to print, also of a store that has no whole text
+abbrev pub IsBegunOf : Contents → Said → List ℕ → Type 0
+IsBegunOf c (run edges grammar options show) text = IsNothingOr (IsRunBegun c show) text
+IsBegunOf c (query label from to) text = IsNothingOr (IsQueryText c label from to) text
+IsBegunOf c dump text = IsNothingOr (IsDumpFront c) text
+IsBegunOf c parts text = IsNothingOr (IsPartsText c) text

@@ -22,7 +22,7 @@ use Rattle.open_store.specs.Copy.{IsCopyRead}
 use Rattle.open_store.specs.Opening.{IsBadStore}
 use Rattle.open_store.specs.Store.{IsHeld, OpenStore}
 use Rattle.query_text.specs.Text.{IsStateLine, answers_in, answers_text, dump_text, head_text}
-use Rattle.query_text.specs.Answered.{IsBlamed, first_asked, wanted}
+use Rattle.query_text.specs.Answered.{AreRead, IsBlamed, first_asked, wanted}
 use Rattle.graspan_top.specs.Given.{Given}
 use Rattle.graspan_top.specs.Run.{IsEnd}
 use Rattle.graspan_top.specs.declared.status.Status.{Status}
@@ -98,6 +98,15 @@ pub record IsDumpText (c : Contents) (text : List ℕ) : Type 0 where
   pub parts : List (List Born)
   pub end : IsEnd c manifest parts
   pub printed : text ≡ dump_text manifest.labels (all_edges parts)
+
+-- the lines of the first partitions of a store without work left, as far as these can be read
+pub record IsDumpFront (c : Contents) (text : List ℕ) : Type 0 where
+  pub store : OpenStore
+  pub held : IsHeld store c
+  pub done : IsDone store.manifest
+  pub read : List (List Born)
+  pub are_read : AreRead store true c 0 read
+  pub printed : text ≡ dump_text store.manifest.labels (all_edges read)
 
 abbrev pub DumpExplains : Given → Type 0 → Type 0 → Status → Type 0
 DumpExplains x disk_rose out_rose status = LookExplains x wants_all IsDone IsUnfinished none_unknown disk_rose out_rose status

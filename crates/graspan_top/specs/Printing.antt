@@ -51,6 +51,30 @@ PrintsFirst known IsText old new (BadStore file place kind) = TakesPrefix known 
 PrintsFirst known IsText old new NoMemory = TakesPrefix known IsText old new
 PrintsFirst known IsText old new status = new ≡ old
 
+-- a prefix of one of these texts was taken, which are those that the command may have begun
+abbrev pub TakesBegun : Bool → (List ℕ → Type 0) → Option (List ℕ) → Option (List ℕ) → Type 0
+TakesBegun known IsBegun old new = IsTrue known → (text : List ℕ) × IsBegun text × AppendsPrefix old new text
+
+-- nothing, or a text of this kind
+abbrev pub IsNothingOr : (List ℕ → Type 0) → List ℕ → Type 0
+IsNothingOr IsText text = (text ≡ []) ⊎ IsText text
+
+-- what stands before the line of a fault that may come in the middle, also where what the disk holds has no whole text
+abbrev pub Begins : Bool → (List ℕ → Type 0) → Option (List ℕ) → Option (List ℕ) → Status → Type 0
+Begins known IsBegun old new WriteFault = TakesBegun known IsBegun old new
+Begins known IsBegun old new DiskFault = TakesBegun known IsBegun old new
+Begins known IsBegun old new (BadStore file place kind) = TakesBegun known IsBegun old new
+Begins known IsBegun old new NoMemory = TakesBegun known IsBegun old new
+Begins known IsBegun old new status = Unit {0}
+
+-- the same, and then the line of the fault
+abbrev pub BeginsWhole : Bool → (List ℕ → Type 0) → Option (List ℕ) → Option (List ℕ) → Type 0 → Status → Type 0
+BeginsWhole known IsBegun old new out_rose WriteFault = TakesBegun known IsBegun old new
+BeginsWhole known IsBegun old new out_rose DiskFault = (mid : Option (List ℕ)) × TakesBegun known IsBegun old mid × TakesLine mid new out_rose (fault_line DiskFault)
+BeginsWhole known IsBegun old new out_rose (BadStore file place kind) = (mid : Option (List ℕ)) × TakesBegun known IsBegun old mid × TakesLine mid new out_rose (fault_line (BadStore file place kind))
+BeginsWhole known IsBegun old new out_rose NoMemory = (mid : Option (List ℕ)) × TakesBegun known IsBegun old mid × TakesLine mid new out_rose (fault_line NoMemory)
+BeginsWhole known IsBegun old new out_rose status = Unit {0}
+
 -- the line of the fault, and nothing where there is none or a write has failed
 abbrev pub Ends : Option (List ℕ) → Option (List ℕ) → Type 0 → Status → Type 0
 Ends old new out_rose Done = new ≡ old

@@ -26,7 +26,7 @@ use Rattle.open_store.specs.Store.{IsHeld, OpenStore}
 use Rattle.store.specs.Import.{texts_of}
 use Rattle.closer.specs.Answers.{BlamesOnTheWay}
 use Rattle.query_text.specs.Text.{answers_text, head_text, tally_text}
-use Rattle.query_text.specs.Answered.{IsBlamed}
+use Rattle.query_text.specs.Answered.{AreRead, IsBlamed}
 use Rattle.graspan_top.specs.Given.{Given, WhereTold}
 use Rattle.graspan_top.specs.declared.status.Status.{Status}
 use Rattle.graspan_top.specs.declared.status.Status.TheVariants.{Done, Words, InputFault, OtherInput, ReadFault, DiskFault, WriteFault, NoMemory, BadStore, NoStore, Unfinished, NotKnown}
@@ -58,6 +58,19 @@ pub record IsRunText (c : Contents) (show : Option (List ℕ)) (text : List ℕ)
   pub shown : List ℕ
   pub shown_is : IsShownText manifest.labels (all_edges parts) show shown
   pub printed : text ≡ head_text manifest ++ (tally_text manifest.labels (all_edges parts) ++ (shown ++ done_line))
+
+-- the lines of vertices and partitions of a store without work left, and those of its labels over the first partitions, as far as these can be read
+pub record IsRunFront (c : Contents) (text : List ℕ) : Type 0 where
+  pub store : OpenStore
+  pub held : IsHeld store c
+  pub done : IsDone store.manifest
+  pub read : List (List Born)
+  pub are_read : AreRead store true c 0 read
+  pub printed : text ≡ head_text store.manifest ++ tally_text store.manifest.labels (all_edges read)
+
+-- what a run may have begun to print: its text, or such a front
+abbrev pub IsRunBegun : Contents → Option (List ℕ) → List ℕ → Type 0
+IsRunBegun c show text = IsRunFront c text ⊎ IsRunText c show text
 
 -- ---- what a run begins with
 

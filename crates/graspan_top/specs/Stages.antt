@@ -1,5 +1,5 @@
 -- What the steps of a run answer.
-use Rattle.std.specs.Prelude.{◌≡◌, ◌⊎◌, ℕ, Bool, IsTrue, List, [], length, Contains, Option, Some, None, Ok}
+use Rattle.std.specs.Prelude.{◌≡◌, ◌⊎◌, ◌++◌, ℕ, Bool, IsTrue, List, [], length, Contains, Option, Some, None, Ok}
 use Rattle.graph_words.specs.declared.types.LabelId.{LabelId}
 use Rattle.graph_words.specs.declared.types.Born.{Born}
 use Rattle.io_edge.specs.declared.kinds.InputFile.TheVariants.{Grammar, Edges, Source}
@@ -14,11 +14,12 @@ use Rattle.open_store.specs.declared.fault.StoreFault.TheVariants as stores
 use Rattle.manifest_switch.specs.declared.slot.Found.TheVariants.{Blank}
 use Rattle.manifest_switch.specs.Slots.{current_of}
 use Rattle.open_store.specs.Opening.{IsBadStore}
-use Rattle.query_text.specs.Text.{answers_text}
-use Rattle.query_text.specs.Answered.{IsBlamed}
+use Rattle.closing_machine.specs.Parts.{all_edges}
+use Rattle.query_text.specs.Text.{answers_text, head_text, tally_text}
+use Rattle.query_text.specs.Answered.{AreListedIn, AreRead, IsBlamed}
 use Rattle.graspan_top.specs.Given.{Given, WhereTold}
 use Rattle.graspan_top.specs.Looking.{HasCurrent}
-use Rattle.graspan_top.specs.Run.{Accepts, IsGoodGrammar, IsOpenedAs}
+use Rattle.graspan_top.specs.Run.{Accepts, IsGoodGrammar, IsOpenedAs, done_line}
 use Rattle.graspan_top.specs.declared.status.Status.{Status}
 use Rattle.graspan_top.specs.declared.status.Status.TheVariants.{Done, InputFault, ReadFault, DiskFault, WriteFault, NoMemory, BadStore, NoStore, Unfinished, NotKnown}
 
@@ -83,3 +84,9 @@ FindExplains tells c Undone disk_rose DiskFault = disk_rose
 FindExplains tells c Undone disk_rose (BadStore file place kind) = IsTrue tells → IsBadStore c file place kind
 FindExplains tells c Undone disk_rose NoMemory = Unit {0}
 FindExplains tells c Undone disk_rose _ = ⊥
+
+-- what the printing of a run has begun: lines over the first partitions, or over all of them
+abbrev pub IsShowBegun : OpenStore → Bool → Contents → Option LabelId → List ℕ → Type 0
+IsShowBegun s tells c shown text =
+    ((read : List (List Born)) × AreRead s tells c 0 read × (text ≡ head_text s.manifest ++ tally_text s.manifest.labels (all_edges read)))
+    ⊎ ((parts : List (List Born)) × AreListedIn s c parts × (text ≡ head_text s.manifest ++ (tally_text s.manifest.labels (all_edges parts) ++ (shown_text shown (all_edges parts) ++ done_line))))

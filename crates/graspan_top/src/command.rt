@@ -9,9 +9,9 @@ ghost use Rattle.store.specs.Import.{texts_of};
 ghost use Rattle.closer.specs.declared.options.RunOptions.{RunOptions as TheOptions};
 ghost use Rattle.command_words.specs.Command.{Reading, Said, run as runs, said};
 ghost use Rattle.graspan_top.specs.declared.status.Status.TheVariants.{Done, NoMemory, Words, WriteFault};
-ghost use Rattle.graspan_top.specs.Command.{Explains, IsLook, IsTextOf};
+ghost use Rattle.graspan_top.specs.Command.{Explains, IsBegunOf, IsLook, IsTextOf};
 ghost use Rattle.graspan_top.specs.Given.{Given as AGiven};
-ghost use Rattle.graspan_top.specs.Printing.{Ends as EndsAs, Prints, PrintsFirst, status_of as the_status};
+ghost use Rattle.graspan_top.specs.Printing.{Begins, BeginsWhole, Ends as EndsAs, Prints, PrintsFirst, status_of as the_status};
 
 use crate::looking::{Ends, dump, parts, query};
 use crate::print::print_fault;
@@ -33,6 +33,7 @@ fn carry_out<I: Inputs, D: Disk, O: Sink>(
 ) -> Result<(), Status>
     ensures explained { Explains (record { told = I.told inputs.old; tells = D.tells; before = D.seen disk.old }) (D.seen disk.new) (λ name. Rose (I.faults inputs.old name) (I.faults inputs.new name)) (DiskRose (D.faults disk.old) (D.faults disk.new)) (Rose (O.faults out.old) (O.faults out.new)) (said command.entry) (the_status result) }
     ensures printed { PrintsFirst D.tells (IsTextOf (D.seen disk.new) (said command.entry)) (O.told out.old) (O.told out.new) (the_status result) }
+    ensures begun { Begins D.tells (IsBegunOf (D.seen disk.new) (said command.entry)) (O.told out.old) (O.told out.new) (the_status result) }
     ensures exact { (edges grammar : List ℕ) (options : TheOptions) (show : Option (List ℕ)) → said command.entry ≡ runs edges grammar options show → IsTrue D.tells → (g e : List ℕ) → I.told inputs.old grammar ≡ Some g → I.told inputs.old edges ≡ Some e → IsLeft (texts_of g e) (D.seen disk.old)
         → the_status result ≡ Done → AreExact (texts_of g e) (D.seen disk.new) × ((c : Contents) → D.may_leave disk.new c → AreExact (texts_of g e) c) }
     ensures looks { IsLook (said command.entry) → OnlyLooks D.seen D.may_leave D.moment D.left_since disk.old disk.new }
@@ -125,6 +126,9 @@ pub fn graspan<I: Inputs, D: Disk, O: Sink>(
 
     // The command's text is printed at Done, and a prefix of it or nothing before the line of a fault.
     ensures printed { (c : Said) → Reading words.now c → Prints D.tells (IsTextOf (D.seen disk.new) c) (O.told out.old) (O.told out.new) (Rose (O.faults out.old) (O.faults out.new)) result }
+
+    // Also of a store whose partitions can't be read, no more stands there than the front of a text that it has.
+    ensures begun { (c : Said) → Reading words.now c → BeginsWhole D.tells (IsBegunOf (D.seen disk.new) c) (O.told out.old) (O.told out.new) (Rose (O.faults out.old) (O.faults out.new)) result }
 
     // Where the disk held what stopped runs of these files leave, or nothing, a run that is done leaves exactly the closure.
     ensures exact { (edges grammar : List ℕ) (options : TheOptions) (show : Option (List ℕ)) → Reading words.now (runs edges grammar options show) → IsTrue D.tells → (g e : List ℕ) → I.told inputs.old grammar ≡ Some g → I.told inputs.old edges ≡ Some e → IsLeft (texts_of g e) (D.seen disk.old)

@@ -10,8 +10,8 @@ ghost use Rattle.open_store.specs.Store.{IsHeld};
 ghost use Rattle.query_text.specs.Text.{answers_in, answers_text};
 ghost use Rattle.query_text.specs.Answered.{HasAnswerCause, IsBlamed, IsPrinted, first_asked};
 ghost use Rattle.graspan_top.specs.declared.status.Status.TheVariants.{NotKnown, Unfinished};
-ghost use Rattle.graspan_top.specs.Looking.{AreVerticesOf, DumpExplains, IsDumpText, IsPartsText, IsQueryText, IsUnfinished, PartsExplains, QueryExplains, count_line as the_count_line, none_undone};
-ghost use Rattle.graspan_top.specs.Printing.{PrintsFirst, status_of};
+ghost use Rattle.graspan_top.specs.Looking.{AreVerticesOf, DumpExplains, IsDumpFront, IsDumpText, IsPartsText, IsQueryText, IsUnfinished, PartsExplains, QueryExplains, count_line as the_count_line, none_undone};
+ghost use Rattle.graspan_top.specs.Printing.{Begins, IsNothingOr, PrintsFirst, status_of};
 ghost use Rattle.graspan_top.specs.Stages.{FindExplains};
 
 use crate::labels::number_of;
@@ -73,6 +73,7 @@ pub(crate) fn parts<D: Disk, O: Sink>(
 ) -> Result<(), Status>
     ensures explained { (told : List ℕ → Option (List ℕ)) → PartsExplains (record { told = told; tells = D.tells; before = D.seen disk.old }) (DiskRose (D.faults disk.old) (D.faults disk.new)) (Rose (O.faults out.old) (O.faults out.new)) (status_of result) }
     ensures printed { PrintsFirst D.tells (IsPartsText (D.seen disk.old)) (O.told out.old) (O.told out.new) (status_of result) }
+    ensures begun { Begins D.tells (IsNothingOr (IsPartsText (D.seen disk.old))) (O.told out.old) (O.told out.new) (status_of result) }
     ensures looks { OnlyLooks D.seen D.may_leave D.moment D.left_since disk.old disk.new }
     ensures later { D.faults disk.old ≤ D.faults disk.new }
     ensures writes { O.faults out.old ≤ O.faults out.new }
@@ -85,6 +86,7 @@ pub(crate) fn parts<D: Disk, O: Sink>(
 pub(crate) fn dump<D: Disk, O: Sink>(alloc: Global, disk: &mut D, out: &mut O) -> Result<(), Status>
     ensures explained { (told : List ℕ → Option (List ℕ)) → DumpExplains (record { told = told; tells = D.tells; before = D.seen disk.old }) (DiskRose (D.faults disk.old) (D.faults disk.new)) (Rose (O.faults out.old) (O.faults out.new)) (status_of result) }
     ensures printed { PrintsFirst D.tells (IsDumpText (D.seen disk.old)) (O.told out.old) (O.told out.new) (status_of result) }
+    ensures begun { Begins D.tells (IsNothingOr (IsDumpFront (D.seen disk.old))) (O.told out.old) (O.told out.new) (status_of result) }
     ensures looks { OnlyLooks D.seen D.may_leave D.moment D.left_since disk.old disk.new }
     ensures later { D.faults disk.old ≤ D.faults disk.new }
     ensures writes { O.faults out.old ≤ O.faults out.new }
@@ -157,6 +159,7 @@ pub(crate) fn query<D: Disk, O: Sink>(
 ) -> Result<(), Status>
     ensures explained { (told : List ℕ → Option (List ℕ)) → QueryExplains (record { told = told; tells = D.tells; before = D.seen disk.old }) label.now ends.from ends.to (DiskRose (D.faults disk.old) (D.faults disk.new)) (Rose (O.faults out.old) (O.faults out.new)) (status_of result) }
     ensures printed { PrintsFirst D.tells (IsQueryText (D.seen disk.old) label.now ends.from ends.to) (O.told out.old) (O.told out.new) (status_of result) }
+    ensures begun { Begins D.tells (IsNothingOr (IsQueryText (D.seen disk.old) label.now ends.from ends.to)) (O.told out.old) (O.told out.new) (status_of result) }
     ensures looks { OnlyLooks D.seen D.may_leave D.moment D.left_since disk.old disk.new }
     ensures later { D.faults disk.old ≤ D.faults disk.new }
     ensures writes { O.faults out.old ≤ O.faults out.new }

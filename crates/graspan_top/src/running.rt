@@ -1,7 +1,7 @@
 //! The command `run`: imports or resumes, closes and prints.
-ghost use Rattle.std.specs.Prelude.{◌≡◌, ◌≢◌, ◌≤◌, ◌++◌, ℕ, List, Option, Some, IsTrue, IfErr, IfOk, OnOk, length, option_map};
+ghost use Rattle.std.specs.Prelude.{◌≡◌, ◌≢◌, ◌≤◌, ◌++◌, ℕ, List, Option, Some, IsTrue, IfErr, IfOk, OnOk, OnErr, length, option_map};
 ghost use Rattle.graph_words.specs.declared.types.Born.{Born as ABorn};
-ghost use Rattle.io_edge.specs.Devices.{Rose, Takes};
+ghost use Rattle.io_edge.specs.Devices.{AppendsPrefix, Rose, Takes};
 ghost use Rattle.closing_machine.specs.Parts.{all_edges};
 ghost use Rattle.disk_model.specs.Disk.{Contents, Rose as DiskRose};
 ghost use Rattle.manifest_switch.specs.Looks.{OnlyLooks};
@@ -13,9 +13,9 @@ ghost use Rattle.query_text.specs.Text.{head_text, tally_text};
 ghost use Rattle.query_text.specs.Answered.{AreListedIn, HasAnswerCause, IsBlamed};
 ghost use Rattle.graspan_top.specs.declared.status.Status.TheVariants.{Done};
 ghost use Rattle.graspan_top.specs.Given.{Given as AGiven};
-ghost use Rattle.graspan_top.specs.Printing.{PrintsFirst, status_of};
-ghost use Rattle.graspan_top.specs.Run.{IsRunText, RunExplains, done_line};
-ghost use Rattle.graspan_top.specs.Stages.{IsReady, ShowExplains, shown_text};
+ghost use Rattle.graspan_top.specs.Printing.{Begins, IsNothingOr, PrintsFirst, status_of};
+ghost use Rattle.graspan_top.specs.Run.{IsRunBegun, IsRunText, RunExplains, done_line};
+ghost use Rattle.graspan_top.specs.Stages.{IsReady, IsShowBegun, ShowExplains, shown_text};
 
 use crate::labels::shown_number;
 use crate::readying::{Files, ready_store};
@@ -61,6 +61,7 @@ fn print_run<D: Disk, O: Sink>(
 ) -> Result<(), AnswerFault>
     ensures printed { IsTrue D.tells → (parts : List (List ABorn)) → AreListedIn store.now (D.seen disk.old) parts
         → Takes (O.told out.old) (O.told out.new) result (head_text store.now.manifest ++ (tally_text store.now.manifest.labels (all_edges parts) ++ (shown_text shown (all_edges parts) ++ done_line))) }
+    ensures begun { IsTrue D.tells → OnErr result ((text : List ℕ) × IsShowBegun store.now D.tells (D.seen disk.old) shown text × AppendsPrefix (O.told out.old) (O.told out.new) text) }
     ensures listed { IsTrue D.tells → OnOk result ((parts : List (List ABorn)) × AreListedIn store.now (D.seen disk.old) parts) }
     ensures looks { OnlyLooks D.seen D.may_leave D.moment D.left_since disk.old disk.new }
     ensures later { D.faults disk.old ≤ D.faults disk.new }
@@ -86,6 +87,7 @@ fn show_run<D: Disk, O: Sink>(
     requires done { IsDone store.now.manifest }
     ensures explained { ShowExplains store.now D.tells (D.seen disk.old) (option_map (λ l. l.now) show.entry) (DiskRose (D.faults disk.old) (D.faults disk.new)) (Rose (O.faults out.old) (O.faults out.new)) (status_of result) }
     ensures printed { PrintsFirst D.tells (IsRunText (D.seen disk.old) (option_map (λ l. l.now) show.entry)) (O.told out.old) (O.told out.new) (status_of result) }
+    ensures begun { Begins D.tells (IsNothingOr (IsRunBegun (D.seen disk.old) (option_map (λ l. l.now) show.entry))) (O.told out.old) (O.told out.new) (status_of result) }
     ensures looks { OnlyLooks D.seen D.may_leave D.moment D.left_since disk.old disk.new }
     ensures later { D.faults disk.old ≤ D.faults disk.new }
     ensures writes { O.faults out.old ≤ O.faults out.new }
@@ -128,6 +130,7 @@ pub(crate) fn run<I: Inputs, D: Disk, O: Sink>(
     ensures explained { RunExplains (record { told = I.told inputs.old; tells = D.tells; before = D.seen disk.old }) files.now.edges.now files.now.grammar.now (option_map (λ l. l.now) show.entry) (D.seen disk.new)
         (Rose (I.faults inputs.old files.now.edges.now) (I.faults inputs.new files.now.edges.now)) (Rose (I.faults inputs.old files.now.grammar.now) (I.faults inputs.new files.now.grammar.now)) (DiskRose (D.faults disk.old) (D.faults disk.new)) (Rose (O.faults out.old) (O.faults out.new)) (status_of result) }
     ensures printed { PrintsFirst D.tells (IsRunText (D.seen disk.new) (option_map (λ l. l.now) show.entry)) (O.told out.old) (O.told out.new) (status_of result) }
+    ensures begun { Begins D.tells (IsNothingOr (IsRunBegun (D.seen disk.new) (option_map (λ l. l.now) show.entry))) (O.told out.old) (O.told out.new) (status_of result) }
     ensures exact { IsTrue D.tells → (g e : List ℕ) → I.told inputs.old files.now.grammar.now ≡ Some g → I.told inputs.old files.now.edges.now ≡ Some e → IsLeft (texts_of g e) (D.seen disk.old) → status_of result ≡ Done
         → AreExact (texts_of g e) (D.seen disk.new) × ((c : Contents) → D.may_leave disk.new c → AreExact (texts_of g e) c) }
     ensures kept { I.told inputs.new ≡ I.told inputs.old }

@@ -4,9 +4,9 @@ use Rattle.disk_model.specs.Disk.{Rose as DiskRose}
 use Rattle.io_edge.specs.Devices.{Rose}
 use Rattle.command_words.specs.declared.command.Command.{Command}
 use Rattle.command_words.specs.Command.{Said, run, said}
-use Rattle.graspan_top.specs.Command.{Explains}
+use Rattle.graspan_top.specs.Command.{Explains, IsBegunOf}
 use Rattle.graspan_top.specs.Given.{Given}
-use Rattle.graspan_top.specs.Printing.{status_of}
+use Rattle.graspan_top.specs.Printing.{Begins, status_of}
 use Rattle.graspan_top.proofs.command.carry_out.Goals as goal
 
 pub returns-in-Run-clause-exact : goal.returns-in-Run-clause-exact
@@ -41,3 +41,9 @@ returns-in-Parts-clause-explained g c =
     let O = g.O.Sink in
     let x : Given = record { told = I.told c.args.inputs.now; tells = D.tells; before = D.seen c.args.disk.now } in
     subst (λ (k : Command). Explains x (D.seen c.parts.new.disk) (λ name. Rose (I.faults c.args.inputs.now name) (I.faults c.args.inputs.now name)) (DiskRose (D.faults c.args.disk.now) (D.faults c.parts.new.disk)) (Rose (O.faults c.args.out.now) (O.faults c.parts.new.out)) (said k) (status_of c.parts.result)) (sym c.in-Parts.is) (c.parts.ensures.explained (I.told c.args.inputs.now))
+
+pub returns-in-Run-clause-begun : goal.returns-in-Run-clause-begun
+returns-in-Run-clause-begun g c =
+    let D = g.D.Disk in
+    let O = g.O.Sink in
+    subst (λ (k : Command). Begins D.tells (IsBegunOf (D.seen c.run.new.disk) (said k)) (O.told c.args.out.now) (O.told c.run.new.out) (status_of c.run.result)) (sym c.in-Run.is) c.run.ensures.begun

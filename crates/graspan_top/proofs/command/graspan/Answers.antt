@@ -3,14 +3,14 @@ use Rattle.disk_model.specs.Disk.{Contents, Rose as DiskRose}
 use Rattle.io_edge.specs.Devices.{Rose}
 use Rattle.command_words.specs.Command.{Said, run, said}
 use Rattle.command_words.proofs.ReadingLemmas.{one_reading}
-use Rattle.graspan_top.specs.Command.{Explains, IsTextOf}
+use Rattle.graspan_top.specs.Command.{Explains, IsBegunOf, IsTextOf}
 use Rattle.graspan_top.specs.Faults.{of_words}
 use Rattle.graspan_top.specs.Given.{Given}
-use Rattle.graspan_top.specs.Printing.{Prints, PrintsFirst, status_of}
+use Rattle.graspan_top.specs.Printing.{Begins, BeginsWhole, Prints, PrintsFirst, status_of}
 use Rattle.graspan_top.specs.declared.status.Status.{Status}
-use Rattle.graspan_top.proofs.CommandLemmas.{said_later, words_back, words_explain}
+use Rattle.graspan_top.proofs.CommandLemmas.{nothing_begun_of, said_later, words_back, words_explain}
 use Rattle.graspan_top.proofs.ExplainLemmas.{rose_later}
-use Rattle.graspan_top.proofs.PrintLemmas.{ends_later, prints}
+use Rattle.graspan_top.proofs.PrintLemmas.{begins, ends_later, prints}
 use Rattle.graspan_top.proofs.command.graspan.Goals as goal
 
 pub returns-in-Ok-clause-explained : goal.returns-in-Ok-clause-explained
@@ -66,3 +66,27 @@ returns-in-Err-clause-explained g c = λ d reading.
     let wr : Type 0 = Rose (O.faults c.args.out.now) (O.faults c.end-in-Err.new.out) in
     subst (λ (s : Status). Explains x (D.seen c.args.disk.now) reads dr wr d s) (sym (c.end-in-Err.ensures.status ∙ c.from.ensures))
     (words_explain x (D.seen c.args.disk.now) reads dr wr c.in-Err.fault (λ e. c.in-Err.ensures.words e d reading) d)
+
+pub returns-in-Ok-clause-begun : goal.returns-in-Ok-clause-begun
+returns-in-Ok-clause-begun g c = λ d reading.
+    let D = g.D.Disk in
+    let O = g.O.Sink in
+    let after = D.seen c.carry_out-ended.new.disk in
+    let same : said c.in-Ok.command ≡ d = one_reading c.args.words.now (said c.in-Ok.command) d c.in-Ok.ensures.reading reading in
+    let old = O.told c.args.out.now in
+    let mid = O.told c.carry_out-ended.new.out in
+    let new = O.told c.end.new.out in
+    let late : Type 0 = Rose (O.faults c.carry_out-ended.new.out) (O.faults c.end.new.out) in
+    let rose : Type 0 = Rose (O.faults c.args.out.now) (O.faults c.end.new.out) in
+    let more = rose_later (O.faults c.args.out.now) (O.faults c.carry_out-ended.new.out) (O.faults c.end.new.out) (O.faults c.end.new.out) c.carry_out-ended.ensures.writes (omega arith) in
+    let first : Begins D.tells (IsBegunOf after (said c.in-Ok.command)) old mid c.end.result = subst (λ (s : Status). Begins D.tells (IsBegunOf after (said c.in-Ok.command)) old mid s) (sym c.end.ensures.status) c.carry_out-ended.ensures.begun in
+    subst (λ (k : Said). BeginsWhole D.tells (IsBegunOf after k) old new rose c.end.result) same
+    (begins D.tells (IsBegunOf after (said c.in-Ok.command)) old mid new rose c.end.result first (ends_later mid new late rose more c.end.result c.end.ensures.ends))
+
+pub returns-in-Err-clause-begun : goal.returns-in-Err-clause-begun
+returns-in-Err-clause-begun g c = λ d reading.
+    let D = g.D.Disk in
+    let O = g.O.Sink in
+    let old = O.told c.args.out.now in
+    let new = O.told c.end-in-Err.new.out in
+    begins D.tells (IsBegunOf (D.seen c.args.disk.now) d) old old new (Rose (O.faults c.args.out.now) (O.faults c.end-in-Err.new.out)) c.end-in-Err.result (nothing_begun_of D.tells (D.seen c.args.disk.now) d old c.end-in-Err.result) c.end-in-Err.ensures.ends

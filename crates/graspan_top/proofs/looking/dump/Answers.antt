@@ -2,9 +2,10 @@ use Rattle.disk_model.specs.Disk.{Rose as DiskRose}
 use Rattle.io_edge.specs.Devices.{Rose}
 use Rattle.store_law.specs.Left.{IsDone}
 use Rattle.graspan_top.specs.Given.{Given}
-use Rattle.graspan_top.specs.Looking.{IsDumpText, IsUnfinished, none_unknown, wants_all}
+use Rattle.graspan_top.specs.Looking.{IsDumpFront, IsDumpText, IsUnfinished, none_unknown, wants_all}
+use Rattle.graspan_top.specs.Printing.{IsNothingOr, status_of}
 use Rattle.graspan_top.proofs.LookLemmas.{found_refused, printing_refused}
-use Rattle.graspan_top.proofs.TextLemmas.{dump_short, dump_whole, printed_short}
+use Rattle.graspan_top.proofs.TextLemmas.{begun_short, dump_begun, dump_short, dump_whole, nothing_begun, printed_short}
 use Rattle.graspan_top.proofs.looking.dump.Goals as goal
 
 pub returns-in_err-store-clause-explained : goal.returns-in_err-store-clause-explained
@@ -38,3 +39,19 @@ returns-clause-printed g c =
     let found = c.in_ok-store.ensures in
     let taken = c.in_ok-dump.ensures.printed in
     dump_whole c.in_ok-store.store (D.seen c.args.disk.now) (D.seen c.finished_store.new.disk) found.looks.same_seen D.tells found.held (told c.args.out.now) (told c.dump.new.sink) taken.0 found.done taken.1
+
+pub returns-in_err-store-clause-begun : goal.returns-in_err-store-clause-begun
+returns-in_err-store-clause-begun g c =
+    let D = g.D.Disk in
+    nothing_begun D.tells (IsDumpFront (D.seen c.args.disk.now)) (g.O.Sink.told c.args.out.now) (status_of c.from_residual.result)
+
+pub returns-in_err-dump-clause-begun : goal.returns-in_err-dump-clause-begun
+returns-in_err-dump-clause-begun g c =
+    let D = g.D.Disk in
+    let told = g.O.Sink.told in
+    let seen = D.seen c.args.disk.now in
+    let found = c.in_ok-store.ensures in
+    let f = c.in_err-dump.field-0.0 in
+    let taken = c.in_err-dump.ensures.printed in
+    begun_short D.tells (IsNothingOr (IsDumpFront seen)) (told c.args.out.now) (told c.dump.new.sink) f c.from_residual-in_err-dump.result c.from_residual-in_err-dump.ensures.1
+    (dump_begun c.in_ok-store.store seen (D.seen c.finished_store.new.disk) found.looks.same_seen D.tells found.held (told c.args.out.now) (told c.dump.new.sink) f taken.0 found.done taken.1)

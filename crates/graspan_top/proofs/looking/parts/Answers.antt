@@ -2,8 +2,9 @@ use Rattle.disk_model.specs.Disk.{Rose as DiskRose}
 use Rattle.io_edge.specs.Devices.{Rose}
 use Rattle.graspan_top.specs.Given.{Given}
 use Rattle.graspan_top.specs.Looking.{IsAny, IsPartsText, none_undone, none_unknown, wants_none}
+use Rattle.graspan_top.specs.Printing.{IsNothingOr, status_of}
 use Rattle.graspan_top.proofs.LookLemmas.{found_refused, writing_refused}
-use Rattle.graspan_top.proofs.TextLemmas.{parts_short, printed_short}
+use Rattle.graspan_top.proofs.TextLemmas.{begun_short, nothing_begun, parts_begun, parts_short, printed_short}
 use Rattle.graspan_top.proofs.looking.parts.Goals as goal
 
 pub returns-in_err-store-clause-explained : goal.returns-in_err-store-clause-explained
@@ -30,3 +31,18 @@ returns-in_err-parts-clause-printed g c =
     let taken = c.in_err-parts.ensures.taken in
     printed_short D.tells (IsPartsText seen) (told c.args.out.now) (told c.parts.new.sink) c.in_err-parts.field-0.0 c.from_residual-in_err-parts.result c.from_residual-in_err-parts.ensures.1
     (parts_short s seen D.tells taken.0 (told c.args.out.now) (told c.parts.new.sink) c.in_ok-store.ensures.held taken.1 taken.2)
+
+pub returns-in_err-store-clause-begun : goal.returns-in_err-store-clause-begun
+returns-in_err-store-clause-begun g c =
+    let D = g.D.Disk in
+    nothing_begun D.tells (IsPartsText (D.seen c.args.disk.now)) (g.O.Sink.told c.args.out.now) (status_of c.from_residual.result)
+
+pub returns-in_err-parts-clause-begun : goal.returns-in_err-parts-clause-begun
+returns-in_err-parts-clause-begun g c =
+    let D = g.D.Disk in
+    let told = g.O.Sink.told in
+    let s = c.in_ok-store.store in
+    let seen = D.seen c.args.disk.now in
+    let taken = c.in_err-parts.ensures.taken in
+    begun_short D.tells (IsNothingOr (IsPartsText seen)) (told c.args.out.now) (told c.parts.new.sink) c.in_err-parts.field-0.0 c.from_residual-in_err-parts.result c.from_residual-in_err-parts.ensures.1
+    (parts_begun s seen D.tells taken.0 (told c.args.out.now) (told c.parts.new.sink) c.in_ok-store.ensures.held taken.1 taken.2)

@@ -6,8 +6,9 @@ use Rattle.manifest.specs.declared.types.Manifest.{Manifest}
 use Rattle.open_store.proofs.Looking.{looks_then}
 use Rattle.graspan_top.specs.Given.{Given}
 use Rattle.graspan_top.specs.Looking.{AreVerticesOf, IsKnownIn, IsQueryText, IsUnfinished, IsUnknownIn, wants_one}
+use Rattle.graspan_top.specs.Printing.{IsNothingOr, status_of}
 use Rattle.graspan_top.proofs.LookLemmas.{found_refused, has_label, printing_refused, unknown_refused}
-use Rattle.graspan_top.proofs.TextLemmas.{printed_short, query_short, query_whole}
+use Rattle.graspan_top.proofs.TextLemmas.{begun_short, nothing_begun, printed_short, query_begun, query_short, query_whole}
 use Rattle.graspan_top.proofs.looking.query.Goals as goal
 
 pub returns-in_err-store-clause-explained : goal.returns-in_err-store-clause-explained
@@ -80,3 +81,31 @@ pub returns-clause-looks : goal.returns-clause-looks
 returns-clause-looks g c =
     let D = g.D.Disk in
     looks_then D.seen D.may_leave D.moment D.left_since c.args.disk.now c.finished_store.new.disk c.print_query.new.disk c.in_ok-store.ensures.looks c.in_ok-print_query.ensures.looks
+
+pub returns-in_err-store-clause-begun : goal.returns-in_err-store-clause-begun
+returns-in_err-store-clause-begun g c =
+    let D = g.D.Disk in
+    nothing_begun D.tells (IsQueryText (D.seen c.args.disk.now) c.args.label.now c.args.ends.from c.args.ends.to) (g.O.Sink.told c.args.out.now) (status_of c.from_residual.result)
+
+pub returns-in_err-number-clause-begun : goal.returns-in_err-number-clause-begun
+returns-in_err-number-clause-begun g c =
+    let D = g.D.Disk in
+    nothing_begun D.tells (IsQueryText (D.seen c.args.disk.now) c.args.label.now c.args.ends.from c.args.ends.to) (g.O.Sink.told c.args.out.now) (status_of c.from_residual-in_err-number.result)
+
+pub returns-in_err-known-clause-begun : goal.returns-in_err-known-clause-begun
+returns-in_err-known-clause-begun g c =
+    let D = g.D.Disk in
+    nothing_begun D.tells (IsQueryText (D.seen c.args.disk.now) c.args.label.now c.args.ends.from c.args.ends.to) (g.O.Sink.told c.args.out.now) (status_of c.from_residual-in_err-known.result)
+
+pub returns-in_err-print_query-clause-begun : goal.returns-in_err-print_query-clause-begun
+returns-in_err-print_query-clause-begun g c =
+    let D = g.D.Disk in
+    let told = g.O.Sink.told in
+    let a = c.args in
+    let found = c.in_ok-store.ensures in
+    let seen = D.seen a.disk.now in
+    let f = c.in_err-print_query.field-0.0 in
+    let taken = c.in_err-print_query.ensures.printed in
+    let number_is = subst (λ (m : Manifest). slice_get m.labels c.in_ok-number.number.0 ≡ Some a.label.now) c.manifest.ensures.manifest c.in_ok-number.ensures.number in
+    begun_short D.tells (IsNothingOr (IsQueryText seen a.label.now a.ends.from a.ends.to)) (told a.out.now) (told c.print_query.new.out) f c.from_residual-in_err-print_query.result c.from_residual-in_err-print_query.ensures.1
+    (query_begun c.in_ok-store.store D.tells c.in_ok-number.number a.ends.from a.ends.to c.manifest.ensures.store seen (D.seen c.finished_store.new.disk) found.looks.same_seen found.held a.label.now number_is (told a.out.now) (told c.print_query.new.out) taken.0 f found.done (taken.1, taken.2))

@@ -6,11 +6,12 @@ use Rattle.store_law.specs.Listed.{AreExact}
 use Rattle.store.specs.Import.{texts_of}
 use Rattle.graspan_top.specs.declared.status.Status.TheVariants.{Done}
 use Rattle.graspan_top.specs.Given.{Given}
-use Rattle.graspan_top.specs.Printing.{PrintsFirst, status_of}
-use Rattle.graspan_top.specs.Run.{IsRunText, RunExplains}
+use Rattle.graspan_top.specs.Printing.{Begins, IsNothingOr, PrintsFirst, status_of}
+use Rattle.graspan_top.specs.Run.{IsRunBegun, IsRunText, RunExplains}
 use Rattle.graspan_top.proofs.ExplainLemmas.{explains_later, on_status, rose_later, show_explains}
 use Rattle.graspan_top.proofs.PrintLemmas.{nothing_first}
 use Rattle.graspan_top.proofs.ReadyLemmas.{exact_end}
+use Rattle.graspan_top.proofs.TextLemmas.{nothing_begun}
 use Rattle.graspan_top.proofs.running.run.Goals as goal
 
 pub returns-in_err-store-clause-explained : goal.returns-in_err-store-clause-explained
@@ -75,3 +76,15 @@ pub returns-in_err-store-clause-exact : goal.returns-in_err-store-clause-exact
 returns-in_err-store-clause-exact g c =
     λ tells gt et tg te left done.
     absurd (on_status c.from_residual.result c.in_err-store.field-0.0 (λ s. s ≡ Done → ⊥) c.from_residual.ensures.1 c.in_err-store.ensures.fails done)
+
+pub returns-in_err-store-clause-begun : goal.returns-in_err-store-clause-begun
+returns-in_err-store-clause-begun g c =
+    let D = g.D.Disk in
+    nothing_begun D.tells (IsRunBegun (D.seen c.closed_store.new.disk) (option_map (λ l. l.now) c.args.show)) (g.O.Sink.told c.args.out.now) (status_of c.from_residual.result)
+
+pub returns-clause-begun : goal.returns-clause-begun
+returns-clause-begun g c =
+    let D = g.D.Disk in
+    let O = g.O.Sink in
+    let show : Option (List ℕ) = option_map (λ l. l.now) c.args.show in
+    subst (λ (k : Contents). Begins D.tells (IsNothingOr (IsRunBegun k show)) (O.told c.args.out.now) (O.told c.show_run.new.out) (status_of c.show_run.result)) (sym c.show_run.ensures.looks.same_seen) c.show_run.ensures.begun
