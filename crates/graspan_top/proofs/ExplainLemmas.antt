@@ -23,7 +23,6 @@ use Rattle.closer.specs.Answers.{BlamesOnTheWay}
 use Rattle.query_text.specs.Answered.{IsBlamed}
 use Rattle.graspan_top.specs.Faults.{of_store}
 use Rattle.graspan_top.specs.Given.{Given, WhereTold}
-use Rattle.graspan_top.specs.Printing.{status_of}
 use Rattle.graspan_top.specs.Run.{Accepts, BeginsWith, Blames, DiffersIn, IsGoodGrammar, IsOpenedAs, IsUnknown, RunExplains, opening, closing, printing}
 use Rattle.graspan_top.specs.Stages.{CompareExplains, DiffersFrom, IsCopied, IsGrammarFile, RefusesGrammar, ShowExplains}
 use Rattle.graspan_top.specs.declared.status.Status.{Status}
@@ -162,10 +161,6 @@ not_done (stores.InputFault file line kind) e = absurd (cc)
 not_done (stores.OtherInput file place) e = absurd (cc)
 not_done (stores.BadStore f p k) e = absurd (cc)
 not_done stores.NoMemory e = absurd (cc)
-
-pub on_status : {U : Type 0} (r : Result U Status) (e : Status) (P : Status → Type 0) → IsErrAnd r (λ x. x ≡ e) → P e → P (status_of r)
-on_status (Ok y) e P is p = absurd is
-on_status (Err y) e P is p = subst P (sym is) p
 
 -- what `?` hands on
 pub if_err : {U E : Type 0} (r : Result U E) (e : E) (P : E → Type 0) → IsErrAnd r (λ x. x ≡ e) → P e → IfErr r P

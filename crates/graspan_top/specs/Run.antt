@@ -126,7 +126,7 @@ pub record IsUnknown (c : Contents) (label : List ℕ) : Type 0 where
   pub done : IsDone manifest
   pub none : Contains manifest.labels label → ⊥
 
--- Why a run answers as it does. The last four say that a count of faults rose: for the edge file's name, for the grammar's, of the disk, and of what is printed to. Each answer says that those before it in the order of refusals don't hold.
+-- Why a run answers as it does. The last four say that a count of faults rose: for the edge file's name, for the grammar's, of the disk, and of what is printed to. Done, InputFault, OtherInput, NotKnown and WriteFault say that no refusal of the two files holds that comes before them; ReadFault of the edge file, DiskFault and BadStore say it of the grammar file alone.
 abbrev pub RunExplains : Given → List ℕ → List ℕ → Option (List ℕ) → Contents → Type 0 → Type 0 → Type 0 → Type 0 → Status → Type 0
 RunExplains x edges grammar show after edges_rose grammar_rose disk_rose out_rose Done = Accepts x edges grammar
 RunExplains x edges grammar show after edges_rose grammar_rose disk_rose out_rose (InputFault Grammar line kind) = WhereTold (x.told grammar) (λ g. grammar_fault g ≡ Some (record { line = line; kind = kind }))

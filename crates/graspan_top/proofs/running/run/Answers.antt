@@ -8,7 +8,8 @@ use Rattle.graspan_top.specs.declared.status.Status.TheVariants.{Done}
 use Rattle.graspan_top.specs.Given.{Given}
 use Rattle.graspan_top.specs.Printing.{Begins, IsNothingOr, PrintsFirst, status_of}
 use Rattle.graspan_top.specs.Run.{IsRunBegun, IsRunText, RunExplains}
-use Rattle.graspan_top.proofs.ExplainLemmas.{explains_later, on_status, rose_later, show_explains}
+use Rattle.graspan_top.proofs.LookLemmas.{status_at}
+use Rattle.graspan_top.proofs.ExplainLemmas.{explains_later, rose_later, show_explains}
 use Rattle.graspan_top.proofs.PrintLemmas.{nothing_first}
 use Rattle.graspan_top.proofs.ReadyLemmas.{exact_end}
 use Rattle.graspan_top.proofs.TextLemmas.{nothing_begun}
@@ -26,14 +27,14 @@ returns-in_err-store-clause-explained g c =
     let gr : Type 0 = Rose (I.faults c.args.inputs.now grammar) (I.faults c.closed_store.new.inputs grammar) in
     let dr : Type 0 = DiskRose (D.faults c.args.disk.now) (D.faults c.closed_store.new.disk) in
     let wr : Type 0 = Rose (g.O.Sink.faults c.args.out.now) (g.O.Sink.faults c.args.out.now) in
-    on_status c.from_residual.result c.in_err-store.field-0.0 (λ s. RunExplains x edges grammar show (D.seen c.closed_store.new.disk) er gr dr wr s) c.from_residual.ensures.1
+    status_at (λ s. RunExplains x edges grammar show (D.seen c.closed_store.new.disk) er gr dr wr s) c.from_residual.result c.in_err-store.field-0.0 c.from_residual.ensures.1
     (explains_later x edges grammar show (D.seen c.closed_store.new.disk) er gr dr ⊥ er gr dr wr (λ h. h) (λ h. h) (λ h. h) (λ h. absurd h) c.in_err-store.field-0.0 (c.in_err-store.ensures.cause show (D.seen c.closed_store.new.disk)))
 
 pub returns-in_err-store-clause-printed : goal.returns-in_err-store-clause-printed
 returns-in_err-store-clause-printed g c =
     let D = g.D.Disk in
     let show : Option (List ℕ) = option_map (λ l. l.now) c.args.show in
-    on_status c.from_residual.result c.in_err-store.field-0.0 (λ s. PrintsFirst D.tells (IsRunText (D.seen c.closed_store.new.disk) show) (g.O.Sink.told c.args.out.now) (g.O.Sink.told c.args.out.now) s) c.from_residual.ensures.1
+    status_at (λ s. PrintsFirst D.tells (IsRunText (D.seen c.closed_store.new.disk) show) (g.O.Sink.told c.args.out.now) (g.O.Sink.told c.args.out.now) s) c.from_residual.result c.in_err-store.field-0.0 c.from_residual.ensures.1
     (nothing_first D.tells (IsRunText (D.seen c.closed_store.new.disk) show) (g.O.Sink.told c.args.out.now) c.in_err-store.field-0.0 c.in_err-store.ensures.fails)
 
 pub returns-clause-explained : goal.returns-clause-explained
@@ -75,7 +76,7 @@ returns-clause-exact g c =
 pub returns-in_err-store-clause-exact : goal.returns-in_err-store-clause-exact
 returns-in_err-store-clause-exact g c =
     λ tells gt et tg te left done.
-    absurd (on_status c.from_residual.result c.in_err-store.field-0.0 (λ s. s ≡ Done → ⊥) c.from_residual.ensures.1 c.in_err-store.ensures.fails done)
+    absurd (status_at (λ s. s ≡ Done → ⊥) c.from_residual.result c.in_err-store.field-0.0 c.from_residual.ensures.1 c.in_err-store.ensures.fails done)
 
 pub returns-in_err-store-clause-begun : goal.returns-in_err-store-clause-begun
 returns-in_err-store-clause-begun g c =

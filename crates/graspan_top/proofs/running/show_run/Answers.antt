@@ -7,7 +7,7 @@ use Rattle.graph_words.specs.declared.types.Born.{Born}
 use Rattle.manifest.specs.declared.types.Manifest.{Manifest}
 use Rattle.graspan_top.specs.Stages.{shown_text}
 use Rattle.graspan_top.specs.Run.{IsRunBegun, IsRunText, IsShownText}
-use Rattle.graspan_top.proofs.ExplainLemmas.{on_status}
+use Rattle.graspan_top.proofs.LookLemmas.{status_at}
 use Rattle.graspan_top.proofs.ShowLemmas.{fault_prints, show_begun, the_text}
 use Rattle.graspan_top.proofs.TextLemmas.{begun_short}
 use Rattle.graspan_top.proofs.running.show_run.Goals as goal
@@ -20,7 +20,7 @@ returns-in_err-print_run-clause-printed g c =
     let seen = D.seen c.args.disk.now in
     let store = c.args.store.now in
     let only = subst (λ (m : Manifest). (edges : List Born) (text : List ℕ) → IsShownText m.labels edges show text → text ≡ shown_text c.in_ok-shown.shown edges) c.manifest.ensures.manifest c.in_ok-shown.ensures.only in
-    on_status c.from_residual-in_err-print_run.result (of_answer c.in_err-print_run.field-0.0) (λ s. PrintsFirst D.tells (IsRunText seen show) (O.told c.args.out.now) (O.told c.print_run.new.out) s) c.from_residual-in_err-print_run.ensures.1
+    status_at (λ s. PrintsFirst D.tells (IsRunText seen show) (O.told c.args.out.now) (O.told c.print_run.new.out) s) c.from_residual-in_err-print_run.result (of_answer c.in_err-print_run.field-0.0) c.from_residual-in_err-print_run.ensures.1
     (fault_prints D.tells (IsRunText seen show) (O.told c.args.out.now) (O.told c.print_run.new.out) c.in_err-print_run.field-0.0
     (λ text tells is.
     let t = the_text store seen (c.requires.held tells) show c.in_ok-shown.shown only text is in
