@@ -62,7 +62,7 @@ took m start next i j k round a edges t o =
 
 module _ (s : OpenStore) (fits : Fits s.manifest) (i j k : ℕ) (start : Manifest) (marked : IsMarked s.manifest i j k start) (turned : Turns s.manifest start i j k) where
   -- the edges after the rounds
-  module _ (edges rows : List Born) (last : ℕ) (r : Rounds (normal_form s.rules) edges 0 s.manifest.round k rows last) (old : (b : Born) → Contains edges b → (b.edge.dst.0 < s.manifest.vertices) × (b.birth < s.manifest.round)) (format : All IsInFormat rows) where
+  module _ (edges rows : List Born) (since last : ℕ) (r : Rounds (normal_form s.rules) edges since s.manifest.round k rows last) (old : (b : Born) → Contains edges b → (b.edge.dst.0 < s.manifest.vertices) × (b.birth < s.manifest.round)) (format : All IsInFormat rows) where
     new_in : (next : Manifest) (a : ℕ) (p' : Part) → next.round ≡ s.manifest.round + k → p' ≡ part_of s.manifest a p'.edges → IsPart p' → ((b : Born) → Contains p'.edges b → Contains rows b) → ((b : ℕ) → b < length s.manifest.parts → counts_of next.map a b ≡ count_into (ends_of s.manifest) p'.edges b)
         → newest_of next.marks a ≡ greatest_birth p'.edges → NewIn s.manifest next a p'.edges
     new_in next a p' round p'-is part among counts newest =
@@ -71,8 +71,8 @@ module _ (s : OpenStore) (fits : Fits s.manifest) (i j k : ℕ) (start : Manifes
           newest = newest;
           part = in_part s.manifest a p' p'-is part;
           labels = All-from_members (λ (b : Born). b.edge.label.0 < 63000) p'.edges (λ b has. (All-contains IsInFormat rows b format (among b has)).label);
-          vertices = All-from_members (λ (b : Born). b.edge.dst.0 < s.manifest.vertices) p'.edges (λ b has. vertices_stay (normal_form s.rules) edges s.manifest.round k last rows r s.manifest.vertices (λ c m. (old c m).0) b (among b has));
-          births = All-from_members (λ (b : Born). b.birth < next.round) p'.edges (λ b has. let h = born_before (normal_form s.rules) edges s.manifest.round k last rows r (λ c m. (old c m).1) b (among b has) in omega (arith, h, round));
+          vertices = All-from_members (λ (b : Born). b.edge.dst.0 < s.manifest.vertices) p'.edges (λ b has. vertices_stay (normal_form s.rules) edges since s.manifest.round k last rows r s.manifest.vertices (λ c m. (old c m).0) b (among b has));
+          births = All-from_members (λ (b : Born). b.birth < next.round) p'.edges (λ b has. let h = born_before (normal_form s.rules) edges since s.manifest.round k last rows r (λ c m. (old c m).1) b (among b has) in omega (arith, h, round));
         }
 
     -- no round adds nothing
@@ -81,7 +81,7 @@ module _ (s : OpenStore) (fits : Fits s.manifest) (i j k : ℕ) (start : Manifes
 
   -- ---- one partition
 
-  module _ (a : ℕ) (p p' : Part) (x : IsPartIn s a p) (last : ℕ) (r : Rounds (normal_form s.rules) p.edges 0 s.manifest.round k p'.edges last) (p'-is : p' ≡ part_of s.manifest a p'.edges) (part : IsPart p') (format : All IsInFormat p'.edges) (next : Manifest) (t : TakesOn s.manifest.round a p'.edges start next) where
+  module _ (a : ℕ) (p p' : Part) (x : IsPartIn s a p) (since last : ℕ) (r : Rounds (normal_form s.rules) p.edges since s.manifest.round k p'.edges last) (p'-is : p' ≡ part_of s.manifest a p'.edges) (part : IsPart p') (format : All IsInFormat p'.edges) (next : Manifest) (t : TakesOn s.manifest.round a p'.edges start next) where
     old_one : (b : Born) → Contains p.edges b → (b.edge.dst.0 < s.manifest.vertices) × (b.birth < s.manifest.round)
     old_one b has = let f = edge_fits s a p x b has in (f.vertex, f.earlier)
 
@@ -92,7 +92,7 @@ module _ (s : OpenStore) (fits : Fits s.manifest) (i j k : ℕ) (start : Manifes
     counts_one b lb = t.counts b (omega (arith, lb, size_start s.manifest fits i j k start marked)) ∙ ap (λ (l : List ℕ). count_into l p'.edges b) (ends_start s.manifest fits i j k start marked)
 
     pub new_one : NewIn s.manifest next a p'.edges
-    new_one = new_in p.edges p'.edges last r old_one format next a p' turns_one.round_is p'-is part (λ b has. has) counts_one t.newest
+    new_one = new_in p.edges p'.edges since last r old_one format next a p' turns_one.round_is p'-is part (λ b has. has) counts_one t.newest
 
     pub kept_one : (z : ℕ) → z ≢ a → KeptIn s.manifest next z
     kept_one z ne =
@@ -104,7 +104,7 @@ module _ (s : OpenStore) (fits : Fits s.manifest) (i j k : ℕ) (start : Manifes
 
     pub still_one : k ≡ 0 → (z : ℕ) → z < length s.manifest.parts → KeptIn s.manifest next z
     still_one none z lz =
-        subst (λ (y : Manifest). KeptIn s.manifest y z) (sym (t.kept (All-from_members (λ (b : Born). b.birth < s.manifest.round) p'.edges (none_new p.edges p'.edges last r old_one format none)))) (kept_start s.manifest fits i j k start marked z)
+        subst (λ (y : Manifest). KeptIn s.manifest y z) (sym (t.kept (All-from_members (λ (b : Born). b.birth < s.manifest.round) p'.edges (none_new p.edges p'.edges since last r old_one format none)))) (kept_start s.manifest fits i j k start marked z)
 
     pub reached_one : s.manifest.round + k ≤ 1 + sum next.map.1
     reached_one =
@@ -114,14 +114,14 @@ module _ (s : OpenStore) (fits : Fits s.manifest) (i j k : ℕ) (start : Manifes
         let c = sum_changed (row_sum s.manifest.map K) (row_sum next.map K) K a x.there (λ z lz ne. sum_same (λ b. counts_of next.map z b) (λ b. counts_of s.manifest.map z b) K (λ b lb. (kept_one z ne).counts b)) in
         let o = row_total s.manifest fits s.manifest.map a p.edges x.told.counts (All-from_members (λ (b : Born). b.edge.dst.0 < s.manifest.vertices) p.edges (λ b has. (old_one b has).0)) in
         let w = row_total s.manifest fits next.map a p'.edges counts_one new_one.vertices in
-        let g = rounds_longer (normal_form s.rules) p.edges 0 s.manifest.round r in
+        let g = rounds_longer (normal_form s.rules) p.edges since s.manifest.round r in
         let m = map_total s.manifest fits in
         let f = fits.reached in
         omega (arith, sums, c, o, w, g, m, f)
 
   -- ---- two partitions
 
-  module _ (a z : ℕ) (apart : a < z) (p q p' q' : Part) (x : IsPartIn s a p) (y : IsPartIn s z q) (last : ℕ) (r : Rounds (normal_form s.rules) (p.edges ++ q.edges) 0 s.manifest.round k (p'.edges ++ q'.edges) last) (p'-is : p' ≡ part_of s.manifest a p'.edges) (q'-is : q' ≡ part_of s.manifest z q'.edges) (p'-part : IsPart p') (q'-part : IsPart q') (format : All IsInFormat (p'.edges ++ q'.edges)) (mid next : Manifest)
+  module _ (a z : ℕ) (apart : a < z) (p q p' q' : Part) (x : IsPartIn s a p) (y : IsPartIn s z q) (since last : ℕ) (r : Rounds (normal_form s.rules) (p.edges ++ q.edges) since s.manifest.round k (p'.edges ++ q'.edges) last) (p'-is : p' ≡ part_of s.manifest a p'.edges) (q'-is : q' ≡ part_of s.manifest z q'.edges) (p'-part : IsPart p') (q'-part : IsPart q') (format : All IsInFormat (p'.edges ++ q'.edges)) (mid next : Manifest)
       (t : TakesOn s.manifest.round a p'.edges start mid) (u : TakesOn s.manifest.round z q'.edges mid next) where
     old_two : (b : Born) → Contains (p.edges ++ q.edges) b → (b.edge.dst.0 < s.manifest.vertices) × (b.birth < s.manifest.round)
     old_two b has =
@@ -145,10 +145,10 @@ module _ (s : OpenStore) (fits : Fits s.manifest) (i j k : ℕ) (start : Manifes
         u.counts b (omega (arith, lb, size)) ∙ ap (λ (l : List ℕ). count_into l q'.edges b) turns_mid.ends
 
     pub new_low : NewIn s.manifest next a p'.edges
-    new_low = new_in (p.edges ++ q.edges) (p'.edges ++ q'.edges) last r old_two format next a p' turns_two.round_is p'-is p'-part (λ b has. Contains-append_left p'.edges q'.edges b has) counts_low (u.other_newest a not_high ∙ t.newest)
+    new_low = new_in (p.edges ++ q.edges) (p'.edges ++ q'.edges) since last r old_two format next a p' turns_two.round_is p'-is p'-part (λ b has. Contains-append_left p'.edges q'.edges b has) counts_low (u.other_newest a not_high ∙ t.newest)
 
     pub new_high : NewIn s.manifest next z q'.edges
-    new_high = new_in (p.edges ++ q.edges) (p'.edges ++ q'.edges) last r old_two format next z q' turns_two.round_is q'-is q'-part (λ b has. Contains-append_right p'.edges q'.edges b has) counts_high u.newest
+    new_high = new_in (p.edges ++ q.edges) (p'.edges ++ q'.edges) since last r old_two format next z q' turns_two.round_is q'-is q'-part (λ b has. Contains-append_right p'.edges q'.edges b has) counts_high u.newest
 
     pub kept_two : (c : ℕ) → c ≢ a → c ≢ z → KeptIn s.manifest next c
     kept_two c ne nz =
@@ -161,7 +161,7 @@ module _ (s : OpenStore) (fits : Fits s.manifest) (i j k : ℕ) (start : Manifes
 
     pub still_two : k ≡ 0 → (c : ℕ) → c < length s.manifest.parts → KeptIn s.manifest next c
     still_two none c lc =
-        let all = none_new (p.edges ++ q.edges) (p'.edges ++ q'.edges) last r old_two format none in
+        let all = none_new (p.edges ++ q.edges) (p'.edges ++ q'.edges) since last r old_two format none in
         let one = t.kept (All-from_members (λ (b : Born). b.birth < s.manifest.round) p'.edges (λ b has. all b (Contains-append_left p'.edges q'.edges b has))) in
         let two = u.kept (All-from_members (λ (b : Born). b.birth < s.manifest.round) q'.edges (λ b has. all b (Contains-append_right p'.edges q'.edges b has))) in
         subst (λ (v : Manifest). KeptIn s.manifest v c) (sym (two ∙ one)) (kept_start s.manifest fits i j k start marked c)
@@ -176,7 +176,7 @@ module _ (s : OpenStore) (fits : Fits s.manifest) (i j k : ℕ) (start : Manifes
         let e = row_total s.manifest fits s.manifest.map z q.edges y.told.counts (All-from_members (λ (b : Born). b.edge.dst.0 < s.manifest.vertices) q.edges (λ b has. (edge_fits s z q y b has).vertex)) in
         let w = row_total s.manifest fits next.map a p'.edges counts_low new_low.vertices in
         let v = row_total s.manifest fits next.map z q'.edges counts_high new_high.vertices in
-        let g = rounds_longer (normal_form s.rules) (p.edges ++ q.edges) 0 s.manifest.round r in
+        let g = rounds_longer (normal_form s.rules) (p.edges ++ q.edges) since s.manifest.round r in
         let m = map_total s.manifest fits in
         let f = fits.reached in
         let l = length-append p.edges q.edges in

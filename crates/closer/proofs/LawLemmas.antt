@@ -21,7 +21,7 @@ use Rattle.store_law.specs.Left.{IsCopy, IsLeft, IsOfTexts, IsStore, IsStoreOf}
 use Rattle.store_law.proofs.Named.{task_of_texts}
 use Rattle.open_store.specs.Copy.{IsCopyRead}
 use Rattle.open_store.specs.Store.{OpenStore}
-use Rattle.closer.specs.Continuing.{AfterSteps, Continues, GoesOn, IsStepFromZero, Retains}
+use Rattle.closer.specs.Continuing.{AfterSteps, Continues, GoesOn, IsWholePass, Retains}
 
 -- ---- files that are as they were
 
@@ -62,7 +62,7 @@ store_kept t d c m parts s r =
 steps_hold : (n : Normal) (g : Graph) (k : ℕ) (s after : State) → IsTask n g → Holds n g s → AfterSteps n k s after → Holds n g after
 steps_hold n g zero s after task holds same = subst (Holds n g) (sym same) holds
 steps_hold n g (suc k) s after task holds steps =
-    let st : IsStepFromZero n steps.0 after = steps.2 in
+    let st : IsWholePass n steps.0 after = steps.2 in
     superstep_keeps n g task st.i st.j st.rounds true steps.0 after (steps_hold n g k s steps.0 task holds steps.1) st.step
 
 texts_after : (t : Texts) (c d : Contents) (k : ℕ) (m next : Manifest) → IsOfTexts t c m → Continues (normal t) k c m d next → IsOfTexts t d next

@@ -3,6 +3,7 @@ pub mod Sums
 pub mod Bounds
 pub mod Running
 pub mod Turning
+pub mod Least
 pub mod Nexting
 pub mod Flat
 pub mod Listing

@@ -64,12 +64,12 @@ some_none x e = let f : true ≡ false = ap is_some e in absurd (cc)
 
 -- ---- what stays where no edge is new
 
-module _ (n : Normal) (start : List Born) (round k last : ℕ) (rows : List Born) (r : Rounds n start 0 round k rows last) where
+module _ (n : Normal) (start : List Born) (since round k last : ℕ) (rows : List Born) (r : Rounds n start since round k rows last) where
   -- of one partition
   pub same_one : IsOrdered start → IsOrdered rows → all_older round rows → rows ≡ start
-  same_one before after old = same_ordered rows start after before (λ b m. old_one n start round k last rows r b (older round rows old b m) m) (λ b m. rounds_grow n start 0 round r b m)
+  same_one before after old = same_ordered rows start after before (λ b m. old_one n start since round k last rows r b (older round rows old b m) m) (λ b m. rounds_grow n start since round r b m)
 
-module _ (n : Normal) (m : Manifest) (fits : Fits m) (a z : ℕ) (apart : a < z) (within : z < length m.parts) (p q p' q' : List Born) (round k last : ℕ) (r : Rounds n (p ++ q) 0 round k (p' ++ q') last) (p-part : IsPart (part_of m a p)) (q-part : IsPart (part_of m z q)) (p'-part : IsPart (part_of m a p')) (q'-part : IsPart (part_of m z q')) where
+module _ (n : Normal) (m : Manifest) (fits : Fits m) (a z : ℕ) (apart : a < z) (within : z < length m.parts) (p q p' q' : List Born) (since round k last : ℕ) (r : Rounds n (p ++ q) since round k (p' ++ q') last) (p-part : IsPart (part_of m a p)) (q-part : IsPart (part_of m z q)) (p'-part : IsPart (part_of m a p')) (q'-part : IsPart (part_of m z q')) where
   behind : high (ends_of m) a ≤ low (ends_of m) z
   behind = cut_apart 0 (ends_of m) m.vertices a z (cut m fits) apart (omega (arith, within, ends_count m))
 
@@ -77,15 +77,15 @@ module _ (n : Normal) (m : Manifest) (fits : Fits m) (a z : ℕ) (apart : a < z)
   pub same_low : all_older round p' → p' ≡ p
   same_low old =
       same_ordered p' p p'-part.ascending p-part.ascending
-      (λ b has. in_first (low (ends_of m) a) (high (ends_of m) a) (low (ends_of m) z) (high (ends_of m) z) q b p behind (sources m z q q-part) (sources m a p' p'-part b has).1 (old_one n (p ++ q) round k last (p' ++ q') r b (older round p' old b has) (Contains-append_left p' q' b has)))
-      (λ b has. in_first (low (ends_of m) a) (high (ends_of m) a) (low (ends_of m) z) (high (ends_of m) z) q' b p' behind (sources m z q' q'-part) (sources m a p p-part b has).1 (rounds_grow n (p ++ q) 0 round r b (Contains-append_left p q b has)))
+      (λ b has. in_first (low (ends_of m) a) (high (ends_of m) a) (low (ends_of m) z) (high (ends_of m) z) q b p behind (sources m z q q-part) (sources m a p' p'-part b has).1 (old_one n (p ++ q) since round k last (p' ++ q') r b (older round p' old b has) (Contains-append_left p' q' b has)))
+      (λ b has. in_first (low (ends_of m) a) (high (ends_of m) a) (low (ends_of m) z) (high (ends_of m) z) q' b p' behind (sources m z q' q'-part) (sources m a p p-part b has).1 (rounds_grow n (p ++ q) since round r b (Contains-append_left p q b has)))
 
   -- and the second
   pub same_high : all_older round q' → q' ≡ q
   same_high old =
       same_ordered q' q q'-part.ascending q-part.ascending
-      (λ b has. in_second (low (ends_of m) a) (high (ends_of m) a) (low (ends_of m) z) (high (ends_of m) z) p b q behind (sources m a p p-part) (sources m z q' q'-part b has).0 (old_one n (p ++ q) round k last (p' ++ q') r b (older round q' old b has) (Contains-append_right p' q' b has)))
-      (λ b has. in_second (low (ends_of m) a) (high (ends_of m) a) (low (ends_of m) z) (high (ends_of m) z) p' b q' behind (sources m a p' p'-part) (sources m z q q-part b has).0 (rounds_grow n (p ++ q) 0 round r b (Contains-append_right p q b has)))
+      (λ b has. in_second (low (ends_of m) a) (high (ends_of m) a) (low (ends_of m) z) (high (ends_of m) z) p b q behind (sources m a p p-part) (sources m z q' q'-part b has).0 (old_one n (p ++ q) since round k last (p' ++ q') r b (older round q' old b has) (Contains-append_right p' q' b has)))
+      (λ b has. in_second (low (ends_of m) a) (high (ends_of m) a) (low (ends_of m) z) (high (ends_of m) z) p' b q' behind (sources m a p' p'-part) (sources m z q q-part b has).0 (rounds_grow n (p ++ q) since round r b (Contains-append_right p q b has)))
 
 -- ---- the manifest at the start of the puts
 
@@ -136,13 +136,13 @@ module _ (st : OpenStore) (fits : Fits st.manifest) (i j k : ℕ) (start : Manif
         same = λ tell old. subst (λ (f : ℕ). Spells (c f) p') (sym (file_start st.manifest fits i j k start s a)) (subst (λ (x : Part). Spells (c (part_file st.manifest a)) x) (p-is ∙ ap (λ (l : List Born). part_of st.manifest a l) (sym (same old)) ∙ sym p'-is) (spelled tell));
       }
 
-  pub may_put_pair : (low high : ℕ) (p : Part) (q : Option Part) (p' : Part) (q' : Option Part) → ArePairIn st low high p q → (IsTrue tells → AreSpelled st c low high p q) → AreRun (normal_form st.rules) st.manifest.round p q p' q' k → MayPutPair st tells c low high p' q' start
-  may_put_pair low high p None p' None pair spelled run =
+  pub may_put_pair : (since low high : ℕ) (p : Part) (q : Option Part) (p' : Part) (q' : Option Part) → ArePairIn st low high p q → (IsTrue tells → AreSpelled st c low high p q) → AreRun (normal_form st.rules) since st.manifest.round p q p' q' k → MayPutPair st tells c low high p' q' start
+  may_put_pair since low high p None p' None pair spelled run =
       let x = pair.1 in
       let p'-is = part_same st.manifest low p p' x.part_is run.low_is in
       let r = run.run (length p'.edges) (omega arith) in
-      may_put low p p' x.there x.part_is x.told spelled p'-is (same_one (normal_form st.rules) p.edges st.manifest.round k r.last p'.edges r.rounds x.fits.part.ascending run.low_part.ascending)
-  may_put_pair low high p (Some q) p' (Some q') pair spelled run =
+      may_put low p p' x.there x.part_is x.told spelled p'-is (same_one (normal_form st.rules) p.edges since st.manifest.round k r.last p'.edges r.rounds x.fits.part.ascending run.low_part.ascending)
+  may_put_pair since low high p (Some q) p' (Some q') pair spelled run =
       let x = pair.1 in
       let y = pair.2 in
       let p'-is = part_same st.manifest low p p' x.part_is run.low_is in
@@ -152,9 +152,9 @@ module _ (st : OpenStore) (fits : Fits st.manifest) (i j k : ℕ) (start : Manif
       let q'-part = in_part st.manifest high q' q'-is run.high_part in (
         pair.0,
         may_put low p p' x.there x.part_is x.told (λ tell. (spelled tell).0) p'-is
-            (same_low (normal_form st.rules) st.manifest fits low high pair.0 y.there p.edges q.edges p'.edges q'.edges st.manifest.round k r.last r.rounds x.fits.part y.fits.part p'-part q'-part),
+            (same_low (normal_form st.rules) st.manifest fits low high pair.0 y.there p.edges q.edges p'.edges q'.edges since st.manifest.round k r.last r.rounds x.fits.part y.fits.part p'-part q'-part),
         may_put high q q' y.there y.part_is y.told (λ tell. (spelled tell).1) q'-is
-            (same_high (normal_form st.rules) st.manifest fits low high pair.0 y.there p.edges q.edges p'.edges q'.edges st.manifest.round k r.last r.rounds x.fits.part y.fits.part p'-part q'-part),
+            (same_high (normal_form st.rules) st.manifest fits low high pair.0 y.there p.edges q.edges p'.edges q'.edges since st.manifest.round k r.last r.rounds x.fits.part y.fits.part p'-part q'-part),
       )
-  may_put_pair low high p None p' (Some q') pair spelled run = absurd (some_none (span_of q') run.high_is)
-  may_put_pair low high p (Some q) p' None pair spelled run = absurd (some_none (span_of q) (sym run.high_is))
+  may_put_pair since low high p None p' (Some q') pair spelled run = absurd (some_none (span_of q') run.high_is)
+  may_put_pair since low high p (Some q) p' None pair spelled run = absurd (some_none (span_of q) (sym run.high_is))

@@ -25,10 +25,10 @@ use Rattle.closer.proofs.Running.{cut_apart}
 use Rattle.closer.proofs.Sums.{row_sum}
 
 -- the same run, by equal names
-pub run_moved : (n n' : Normal) (xs ys : List Born) (r r' budget : ℕ) (b : Bool) (k k' : ℕ) (rows : List Born) → n ≡ n' → xs ≡ ys → r ≡ r' → b ≡ true → k ≡ k' → IsPairRun n xs 0 r budget b k rows → IsPairRun n' ys 0 r' budget true k' rows
-run_moved n n' xs ys r r' budget b k k' rows en ex er eb ek run =
-    subst (λ (y : Normal). IsPairRun y ys 0 r' budget true k' rows) en
-    (subst (λ (y : List Born). IsPairRun n y 0 r' budget true k' rows) ex (subst (λ (y : ℕ). IsPairRun n xs 0 y budget true k' rows) er (subst (λ (y : Bool). IsPairRun n xs 0 r budget y k' rows) eb (subst (λ (y : ℕ). IsPairRun n xs 0 r budget b y rows) ek run))))
+pub run_moved : (n n' : Normal) (xs ys : List Born) (since r r' budget : ℕ) (b : Bool) (k k' : ℕ) (rows : List Born) → n ≡ n' → xs ≡ ys → r ≡ r' → b ≡ true → k ≡ k' → IsPairRun n xs since r budget b k rows → IsPairRun n' ys since r' budget true k' rows
+run_moved n n' xs ys since r r' budget b k k' rows en ex er eb ek run =
+    subst (λ (y : Normal). IsPairRun y ys since r' budget true k' rows) en
+    (subst (λ (y : List Born). IsPairRun n y since r' budget true k' rows) ex (subst (λ (y : ℕ). IsPairRun n xs since y budget true k' rows) er (subst (λ (y : Bool). IsPairRun n xs since r budget y k' rows) eb (subst (λ (y : ℕ). IsPairRun n xs since r budget b y rows) ek run))))
 
 module _ (s : OpenStore) (is : IsOpenStore s) where
   pub stands : (i j : ℕ) (p : Part) (q : Option Part) → ArePairIn s i j p q → StandsBehind p q
@@ -70,11 +70,11 @@ module _ (s : OpenStore) (is : IsOpenStore s) where
       omega (arith, r, c, d, l)
 
   -- the partitions after the rounds
-  pub are_run : (i j k : ℕ) (p : Part) (q : Option Part) (p' : Part) (q' : Option Part) (rows : Loaded) → ArePairIn s i j p q → loaded_of p' q' ≡ rows → rows.low ≡ (loaded_of p q).low → rows.high ≡ (loaded_of p q).high → IsLoaded rows → IsPart p' → IfHigh q' IsPart → All IsInFormat rows.edges
-      → ((budget : ℕ) → length rows.edges ≤ budget → IsPairRun (normal_form s.rules) (loaded_of p q).edges 0 s.manifest.round budget true k rows.edges) → AreRun (normal_form s.rules) s.manifest.round p q p' q' k
-  are_run i j k p q p' q' rows pair same low_same high_same loaded p'-part q'-part all run =
+  pub are_run : (since i j k : ℕ) (p : Part) (q : Option Part) (p' : Part) (q' : Option Part) (rows : Loaded) → ArePairIn s i j p q → loaded_of p' q' ≡ rows → rows.low ≡ (loaded_of p q).low → rows.high ≡ (loaded_of p q).high → IsLoaded rows → IsPart p' → IfHigh q' IsPart → All IsInFormat rows.edges
+      → ((budget : ℕ) → length rows.edges ≤ budget → IsPairRun (normal_form s.rules) (loaded_of p q).edges since s.manifest.round budget true k rows.edges) → AreRun (normal_form s.rules) since s.manifest.round p q p' q' k
+  are_run since i j k p q p' q' rows pair same low_same high_same loaded p'-part q'-part all run =
       let r = run (length rows.edges) (omega arith) in
-      let g = rounds_longer (normal_form s.rules) (loaded_of p q).edges 0 s.manifest.round r.rounds in
+      let g = rounds_longer (normal_form s.rules) (loaded_of p q).edges since s.manifest.round r.rounds in
       let f = fits rows loaded all in
       let m = room i j p q pair in
       let c : capacity_of rows ≡ capacity_of (loaded_of p q) = λ x. capacity_of (record { low = low_same x; high = high_same x; edges = rows.edges }) in
@@ -83,7 +83,7 @@ module _ (s : OpenStore) (is : IsOpenStore s) where
         high_is = ap (λ (l : Loaded). l.high) same ∙ high_same;
         low_part = p'-part;
         high_part = q'-part;
-        run = subst (λ (l : Loaded). (budget : ℕ) → length l.edges ≤ budget → IsPairRun (normal_form s.rules) (loaded_of p q).edges 0 s.manifest.round budget true k l.edges) (sym same) run;
+        run = subst (λ (l : Loaded). (budget : ℕ) → length l.edges ≤ budget → IsPairRun (normal_form s.rules) (loaded_of p q).edges since s.manifest.round budget true k l.edges) (sym same) run;
         format = subst (λ (l : Loaded). All IsInFormat l.edges) (sym same) all;
         room = omega (arith, g, f, m, c);
       }

@@ -33,18 +33,18 @@ joins_known rules named g lefts b c a (p, has, e, f, up) =
 
 -- ---- the edges after the rounds
 
-module _ (n : Normal) (start : List Born) (round k last : ℕ) (rows : List Born) (r : Rounds n start 0 round k rows last) where
+module _ (n : Normal) (start : List Born) (since round k last : ℕ) (rows : List Born) (r : Rounds n start since round k rows last) where
   pub born_before : ((b : Born) → Contains start b → b.birth < round) → (b : Born) → Contains rows b → b.birth < round + k
-  born_before old = rounds_births n start 0 round r old
+  born_before old = rounds_births n start since round r old
 
   pub old_one : (b : Born) → b.birth < round → Contains rows b → Contains start b
-  old_one b lt m = either (λ h. h) (λ h. absurd (let ge : round ≤ b.birth = h.0 in omega arith)) (rounds_cases n start 0 round r b m)
+  old_one b lt m = either (λ h. h) (λ h. absurd (let ge : round ≤ b.birth = h.0 in omega arith)) (rounds_cases n start since round r b m)
 
   pub vertices_stay : (top : ℕ) → ((b : Born) → Contains start b → b.edge.dst.0 < top) → (b : Born) → Contains rows b → b.edge.dst.0 < top
-  vertices_stay top old = rounds_keep n start 0 round (λ b. b.edge.dst.0 < top) (λ x y e b hx hy j. subst (λ v. v.0 < top) (sym j.destination) hy) old r
+  vertices_stay top old = rounds_keep n start since round (λ b. b.edge.dst.0 < top) (λ x y e b hx hy j. subst (λ v. v.0 < top) (sym j.destination) hy) old r
 
   pub labels_stay : (P : LabelId → Type 0) → ((b c a : LabelId) → Joins n b c a → P a) → ((b : Born) → Contains start b → P b.edge.label) → (b : Born) → Contains rows b → P b.edge.label
-  labels_stay P joins old = rounds_keep n start 0 round (λ b. P b.edge.label) (λ x y e b hx hy j. joins x.edge.label y.edge.label e.label j.label) old r
+  labels_stay P joins old = rounds_keep n start since round (λ b. P b.edge.label) (λ x y e b hx hy j. joins x.edge.label y.edge.label e.label j.label) old r
 
 -- ---- where the edges of two partitions stand
 

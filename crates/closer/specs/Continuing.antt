@@ -4,6 +4,7 @@ use Rattle.graph_words.specs.declared.types.Born.{Born}
 use Rattle.normal_law.specs.Closure.{Normal}
 use Rattle.closing_machine.specs.State.{State, count, newest, IsDirtyBy, IsPick}
 use Rattle.closing_machine.specs.Machine.{IsSuperstep}
+use Rattle.closing_machine.specs.Chain.{IsLeastMark}
 use Rattle.closing_machine.specs.Measure.{dirty_pairs}
 use Rattle.closing_machine.specs.Tells.{Tells}
 use Rattle.disk_model.specs.Disk.{Contents}
@@ -16,19 +17,19 @@ use Rattle.manifest_switch.specs.declared.slot.Found.TheVariants.{At}
 use Rattle.manifest_switch.specs.Slots.{current_of}
 use Rattle.store_law.specs.Listed.{AreListed, part_file, state_in}
 
--- one step of closing on the pair that is picked, whose first round goes over all loaded edges, until a round adds nothing
-pub record IsStepFromZero (n : Normal) (before after : State) : Type 0 where
+-- one step of closing on the pair that is picked: the first round goes over joins since the least mark of the loaded partitions, and the rounds go on until one adds nothing
+pub record IsWholePass (n : Normal) (before after : State) : Type 0 where
   pub i : ℕ
   pub j : ℕ
   pub rounds : ℕ
   pub pick : IsPick (count before) before.marks (newest before) (length before.ends) i j
   pub step : IsSuperstep n i j rounds true before after
-  pub from_zero : step.since ≡ 0
+  pub begins : IsLeastMark before i j step.since
 
 -- the state after k such steps
 abbrev pub AfterSteps : Normal → ℕ → State → State → Type 0
 AfterSteps n zero s after = after ≡ s
-AfterSteps n (suc k) s after = (mid : State) × AfterSteps n k s mid × IsStepFromZero n mid after
+AfterSteps n (suc k) s after = (mid : State) × AfterSteps n k s mid × IsWholePass n mid after
 
 -- the manifest `next` in the contents d goes on from m in c by k steps: it is of the same texts, and whatever partitions m lists and tells of, it lists and tells of those after the steps
 pub record Continues (n : Normal) (k : ℕ) (c : Contents) (m : Manifest) (d : Contents) (next : Manifest) : Type 0 where

@@ -28,6 +28,16 @@ pub record IsPartIn (s : OpenStore) (a : ℕ) (p : Part) : Type 0 where
   pub fits : Fits (expect_in s a) (part_of s.manifest a p.edges)
   pub told : IsTold s.manifest a p.edges
 
+-- the mark is the least of the ordered pairs among partitions i and j of which an edge leads from the one to the other, as the manifest tells
+pub record IsLeastMarkIn (m : Manifest) (i j mark : ℕ) : Type 0 where
+  pub first : ℕ
+  pub second : ℕ
+  pub first_among : is_among i j first ≡ true
+  pub second_among : is_among i j second ≡ true
+  pub some : 0 < counts_of m.map first second
+  pub is : mark ≡ joined_of m.marks first second
+  pub least : (a b : ℕ) → is_among i j a ≡ true → is_among i j b ≡ true → 0 < counts_of m.map a b → mark ≤ joined_of m.marks a b
+
 -- the one partition, or the two of which the first is the low one
 abbrev pub ArePairIn : OpenStore → ℕ → ℕ → Part → Option Part → Type 0
 ArePairIn s low high p None = (low ≡ high) × IsPartIn s low p
@@ -42,13 +52,13 @@ abbrev pub IfHigh : Option Part → (Part → Type 0) → Type 0
 IfHigh None P = Unit {0}
 IfHigh (Some q) P = P q
 
--- k rounds on the partitions p and q made p' and q', and a further one adds nothing. The first goes over all edges
-pub record AreRun (n : Normal) (round : ℕ) (p : Part) (q : Option Part) (p' : Part) (q' : Option Part) (k : ℕ) : Type 0 where
+-- k rounds on the partitions p and q made p' and q', and a further one adds nothing. The first goes over joins of which an edge is born at or after since
+pub record AreRun (n : Normal) (since round : ℕ) (p : Part) (q : Option Part) (p' : Part) (q' : Option Part) (k : ℕ) : Type 0 where
   pub low_is : (loaded_of p' q').low ≡ (loaded_of p q).low
   pub high_is : (loaded_of p' q').high ≡ (loaded_of p q).high
   pub low_part : IsPart p'
   pub high_part : IfHigh q' IsPart
-  pub run : (budget : ℕ) → length (loaded_of p' q').edges ≤ budget → IsPairRun n (loaded_of p q).edges 0 round budget true k (loaded_of p' q').edges
+  pub run : (budget : ℕ) → length (loaded_of p' q').edges ≤ budget → IsPairRun n (loaded_of p q).edges since round budget true k (loaded_of p' q').edges
   pub format : All IsInFormat (loaded_of p' q').edges
   pub room : round + k < 2 ^ 64
 
@@ -179,8 +189,10 @@ pub record IsNext (s : OpenStore) (tells : Bool) (old new : Contents) (i j : ℕ
   pub q' : Option Part
   pub k : ℕ
   pub start : Manifest
+  pub since : ℕ
+  pub least : IsLeastMarkIn s.manifest i j since
   pub loaded : ArePairIn s low high p q
   pub spelled : IsTrue tells → AreSpelled s old low high p q
-  pub run : AreRun (normal_form s.rules) s.manifest.round p q p' q' k
+  pub run : AreRun (normal_form s.rules) since s.manifest.round p q p' q' k
   pub marked : IsMarked s.manifest i j k start
   pub put : ArePut s.manifest tells low high p' q' start old next new

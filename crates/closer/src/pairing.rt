@@ -1,13 +1,17 @@
 //! One or two partitions are loaded, and rounds are run on them.
-ghost use Rattle.std.specs.Prelude.{◌≡◌, ◌<◌, ◌≤◌, ℕ, IsTrue, true, IfOk, length};
+ghost use Rattle.std.specs.Prelude.{◌≡◌, ◌⊎◌, ◌^◌, ◌<◌, ◌≤◌, ℕ, IsTrue, true, IfOk, length};
 ghost use Rattle.normal_law.specs.NormalForm.{normal_form};
+ghost use Rattle.dest_map.specs.Table.{counts_of};
+ghost use Rattle.pair_sched.specs.Marks.{joined_of};
+ghost use Rattle.manifest.specs.Spelling.{Fits};
 ghost use Rattle.manifest_switch.specs.Looks.{OnlyLooks};
 ghost use Rattle.open_store.specs.Answers.{HasDiskCause};
 ghost use Rattle.partition_file.specs.Spelling.{IsPart};
 ghost use Rattle.superstep.specs.Ends.{is_closed, rounds_of};
-ghost use Rattle.closer.specs.Making.{ArePairIn, AreRun, AreSpelled, BlamesPair, IfHigh};
+ghost use Rattle.closer.specs.Making.{ArePairIn, AreRun, AreSpelled, BlamesPair, IfHigh, IsLeastMarkIn};
 
 use disk_model::Disk;
+use manifest::Manifest;
 use open_store::{Store, StoreFault};
 use partition_file::Partition;
 use row_table::Rows;
@@ -47,6 +51,37 @@ pub(crate) fn load_pair<D: Disk>(
     Ok((first, Some(second)))
 }
 
+// The lower one of a mark so far and that of partitions `i` and `j`, where an edge leads from the one
+// to the other.
+fn lower(manifest: &Manifest, i: usize, j: usize, least: u64) -> u64
+    requires fits { Fits manifest.now }
+    requires i { i < length manifest.now.parts }
+    requires j { j < length manifest.now.parts }
+    ensures least { result ≤ least }
+    ensures mark { 0 < counts_of manifest.now.map i j → result ≤ joined_of manifest.now.marks i j }
+    ensures one { (result ≡ least) ⊎ ((0 < counts_of manifest.now.map i j) × (result ≡ joined_of manifest.now.marks i j)) }
+{
+    if manifest.map.count(i, j) == 0 {
+        return least;
+    }
+    least.min(manifest.marks.joined(i, j))
+}
+
+/// The least mark of the ordered pairs among partitions `i` and `j` that have an edge. What is born
+/// below it is joined.
+pub(crate) fn least_mark(manifest: &Manifest, i: usize, j: usize) -> u64
+    requires fits { Fits manifest.now }
+    requires i { i < length manifest.now.parts }
+    requires j { j < length manifest.now.parts }
+    requires some { 0 < counts_of manifest.now.map i j }
+    ensures { IsLeastMarkIn manifest.now i j result }
+{
+    let least = manifest.marks.joined(i, j);
+    let least = lower(manifest, j, i, least);
+    let least = lower(manifest, i, i, least);
+    lower(manifest, j, j, least)
+}
+
 // A partition keeps its rules, where there is one.
 fn keeps_rules(part: &Option<Partition>)
     ensures { IfHigh part.now IsPart }
@@ -66,19 +101,21 @@ fn added(end: PairEnd) -> u64
     }
 }
 
-/// Runs rounds on loaded partitions until one adds nothing. The first goes over all edges.
+/// Runs rounds on loaded partitions until one adds nothing. The first goes over joins of which an edge
+/// is born at or after `since`.
 pub(crate) fn run_loaded(
     alloc: Global,
     store: &Store,
     low: Partition,
     high: Option<Partition>,
+    since: u64,
 ) -> Result<Ran, AllocError>
     requires { (i j : ℕ) × ArePairIn store.now i j low high }
-    ensures { IfOk result (λ r. AreRun (normal_form store.now.rules) store.now.manifest.round low high r.low r.high r.rounds) }
+    ensures { IfOk result (λ r. AreRun (normal_form store.now.rules) since store.now.manifest.round low high r.low r.high r.rounds) }
 {
     let birth = store.manifest().round;
     let mut rows = Rows::of_two(alloc, low, high)?;
-    let end = run_pair(alloc, &mut rows, store.normal(), 0, birth)?;
+    let end = run_pair(alloc, &mut rows, store.normal(), since, birth)?;
     rows.limits();
     let (low, high) = rows.into_parts()?;
     let _lo = low.lo();

@@ -2,6 +2,7 @@
 ghost use Rattle.std.specs.Prelude.{◌≡◌, ◌<◌, ◌≤◌, IfOk, length};
 ghost use Rattle.disk_model.specs.Disk.{Contents};
 ghost use Rattle.disk_model.specs.Crash.{LeavesOnly, From};
+ghost use Rattle.dest_map.specs.Table.{counts_of};
 ghost use Rattle.open_store.specs.Answers.{HasDiskCause};
 ghost use Rattle.open_store.specs.Store.{IsHeldAlone};
 ghost use Rattle.store_law.specs.Left.{IsDone};
@@ -10,7 +11,7 @@ ghost use Rattle.closer.specs.Making.{BlamesPair, IsNext, IsOrderedPair, Spares}
 
 use crate::making::marked;
 use crate::options::RunOptions;
-use crate::pairing::{load_pair, run_loaded};
+use crate::pairing::{least_mark, load_pair, run_loaded};
 use crate::putting::put_pair;
 use disk_model::Disk;
 use manifest::Manifest;
@@ -44,6 +45,7 @@ fn close_pair<D: Disk>(
 ) -> Result<Manifest, StoreFault>
     requires i { i < length store.now.manifest.parts }
     requires j { j < length store.now.manifest.parts }
+    requires some { 0 < counts_of store.now.manifest.map i j }
     ensures next { IfOk result (IsNext store.now D.tells (D.seen disk.old) (D.seen disk.new) i j) }
     ensures any_moment { LeavesOnly D.moment D.left_since disk.old disk.new (From (D.may_leave disk.old) (Spares store.now.manifest)) }
     ensures later { D.faults disk.old ≤ D.faults disk.new }
@@ -51,7 +53,8 @@ fn close_pair<D: Disk>(
 {
     let (low, high) = in_order(i, j);
     let (first, second) = load_pair(alloc, disk, store, low, high)?;
-    let ran = run_loaded(alloc, store, first, second)?;
+    let since = least_mark(store.manifest(), i, j);
+    let ran = run_loaded(alloc, store, first, second, since)?;
     let next = marked(store, i, j, ran.rounds)?;
     put_pair(alloc, disk, store, next, low, high, &ran)
 }
@@ -60,7 +63,8 @@ fn close_pair<D: Disk>(
 ///
 /// The store was opened for a change, or came from an import, a commit or a step. The pair is the one
 /// with work left of the greatest count, and of these the first. Both partitions are loaded, or the
-/// one where they are the same; no other is in memory. The first round goes over all their edges. Each
+/// one where they are the same; no other is in memory. The first round leaves out what is joined
+/// already: it goes over joins of which an edge is not older than the least mark among them. Each
 /// of the two that has a new edge goes to a free file, so what the current manifest names stays; the
 /// pairs among them are marked as joined; and the next manifest is committed.
 ///

@@ -1,6 +1,7 @@
 pub mod GrammarLemmas
 pub mod ExplainLemmas
 pub mod ReadyLemmas
+pub mod StopLemmas
 pub mod PrintLemmas
 pub mod LookLemmas
 pub mod ShowLemmas

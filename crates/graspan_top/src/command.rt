@@ -11,6 +11,7 @@ ghost use Rattle.command_words.specs.Command.{Reading, Said, run as runs, said};
 ghost use Rattle.graspan_top.specs.declared.status.Status.TheVariants.{Done, NoMemory, Words, WriteFault};
 ghost use Rattle.graspan_top.specs.Command.{Explains, IsBegunOf, IsLook, IsTextOf};
 ghost use Rattle.graspan_top.specs.Given.{Given as AGiven};
+ghost use Rattle.graspan_top.specs.Run.{StopsLeave};
 ghost use Rattle.graspan_top.specs.Printing.{Begins, BeginsWhole, Ends as EndsAs, Prints, PrintsFirst, status_of as the_status};
 
 use crate::looking::{Ends, dump, parts, query};
@@ -36,6 +37,7 @@ fn carry_out<I: Inputs, D: Disk, O: Sink>(
     ensures begun { Begins D.tells (IsBegunOf (D.seen disk.new) (said command.entry)) (O.told out.old) (O.told out.new) (the_status result) }
     ensures exact { (edges grammar : List ℕ) (options : TheOptions) (show : Option (List ℕ)) → said command.entry ≡ runs edges grammar options show → IsTrue D.tells → (g e : List ℕ) → I.told inputs.old grammar ≡ Some g → I.told inputs.old edges ≡ Some e → IsLeft (texts_of g e) (D.seen disk.old)
         → the_status result ≡ Done → AreExact (texts_of g e) (D.seen disk.new) × ((c : Contents) → D.may_leave disk.new c → AreExact (texts_of g e) c) }
+    ensures stops { (edges grammar : List ℕ) (options : TheOptions) (show : Option (List ℕ)) → said command.entry ≡ runs edges grammar options show → StopsLeave D.may_leave D.moment D.left_since (I.told inputs.old) edges grammar disk.old disk.new }
     ensures looks { IsLook (said command.entry) → OnlyLooks D.seen D.may_leave D.moment D.left_since disk.old disk.new }
     ensures kept { I.told inputs.new ≡ I.told inputs.old }
     ensures others { (other : List ℕ) → I.faults inputs.old other ≤ I.faults inputs.new other }
@@ -133,6 +135,9 @@ pub fn graspan<I: Inputs, D: Disk, O: Sink>(
     // Where the disk held what stopped runs of these files leave, or nothing, a run that is done leaves exactly the closure.
     ensures exact { (edges grammar : List ℕ) (options : TheOptions) (show : Option (List ℕ)) → Reading words.now (runs edges grammar options show) → IsTrue D.tells → (g e : List ℕ) → I.told inputs.old grammar ≡ Some g → I.told inputs.old edges ≡ Some e → IsLeft (texts_of g e) (D.seen disk.old)
         → result ≡ Done → AreExact (texts_of g e) (D.seen disk.new) × ((c : Contents) → D.may_leave disk.new c → AreExact (texts_of g e) c) }
+
+    // A run that is stopped at any moment, also within a write, leaves what a later run goes on from.
+    ensures stops { (edges grammar : List ℕ) (options : TheOptions) (show : Option (List ℕ)) → Reading words.now (runs edges grammar options show) → StopsLeave D.may_leave D.moment D.left_since (I.told inputs.old) edges grammar disk.old disk.new }
 
     // The other commands change nothing.
     ensures looks { (c : Said) → Reading words.now c → IsLook c → OnlyLooks D.seen D.may_leave D.moment D.left_since disk.old disk.new }

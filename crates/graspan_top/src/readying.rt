@@ -8,7 +8,7 @@ ghost use Rattle.open_store.specs.Answers.{copy_of};
 ghost use Rattle.graspan_top.specs.declared.status.Status.TheVariants.{Done};
 ghost use Rattle.graspan_top.specs.Faults.{of_store};
 ghost use Rattle.graspan_top.specs.Given.{Given as AGiven};
-ghost use Rattle.graspan_top.specs.Run.{BeginsWith, RunExplains};
+ghost use Rattle.graspan_top.specs.Run.{BeginsWith, RunExplains, StopsLeave};
 ghost use Rattle.graspan_top.specs.Stages.{CompareExplains, IsCopied, IsGrammarFile, IsReady};
 
 use crate::grammar_file::read_grammar_file;
@@ -67,6 +67,7 @@ fn found_or_made<I: Inputs, D: Disk>(
     ensures begins { IfOk result (λ _. IsTrue D.tells → BeginsWith (record { told = I.told inputs.old; tells = D.tells; before = D.seen disk.old }) (D.seen disk.new)) }
     ensures cause { IfErr result (λ fault. (show : Option (List ℕ)) (after : Contents) → RunExplains (record { told = I.told inputs.old; tells = D.tells; before = D.seen disk.old }) files.now.edges.now files.now.grammar.now show after
         (Rose (I.faults inputs.old files.now.edges.now) (I.faults inputs.new files.now.edges.now)) (Rose (I.faults inputs.old files.now.grammar.now) (I.faults inputs.new files.now.grammar.now)) (DiskRose (D.faults disk.old) (D.faults disk.new)) ⊥ (of_store fault)) }
+    ensures stops { StopsLeave D.may_leave D.moment D.left_since (I.told inputs.old) files.now.edges.now files.now.grammar.now disk.old disk.new }
     ensures kept { I.told inputs.new ≡ I.told inputs.old }
     ensures others { (other : List ℕ) → I.faults inputs.old other ≤ I.faults inputs.new other }
     ensures later { D.faults disk.old ≤ D.faults disk.new }
@@ -93,6 +94,7 @@ pub(crate) fn ready_store<I: Inputs, D: Disk>(
     ensures cause { IfErr result (λ fault. (show : Option (List ℕ)) (after : Contents) → RunExplains (record { told = I.told inputs.old; tells = D.tells; before = D.seen disk.old }) files.now.edges.now files.now.grammar.now show after
         (Rose (I.faults inputs.old files.now.edges.now) (I.faults inputs.new files.now.edges.now)) (Rose (I.faults inputs.old files.now.grammar.now) (I.faults inputs.new files.now.grammar.now)) (DiskRose (D.faults disk.old) (D.faults disk.new)) ⊥ fault) }
     ensures fails { IfErr result (λ fault. fault ≢ Done) }
+    ensures stops { StopsLeave D.may_leave D.moment D.left_since (I.told inputs.old) files.now.edges.now files.now.grammar.now disk.old disk.new }
     ensures kept { I.told inputs.new ≡ I.told inputs.old }
     ensures others { (other : List ℕ) → I.faults inputs.old other ≤ I.faults inputs.new other }
     ensures later { D.faults disk.old ≤ D.faults disk.new }

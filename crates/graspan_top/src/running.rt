@@ -14,7 +14,7 @@ ghost use Rattle.query_text.specs.Answered.{AreListedIn, HasAnswerCause, IsBlame
 ghost use Rattle.graspan_top.specs.declared.status.Status.TheVariants.{Done};
 ghost use Rattle.graspan_top.specs.Given.{Given as AGiven};
 ghost use Rattle.graspan_top.specs.Printing.{Begins, IsNothingOr, PrintsFirst, status_of};
-ghost use Rattle.graspan_top.specs.Run.{IsRunBegun, IsRunText, RunExplains, done_line};
+ghost use Rattle.graspan_top.specs.Run.{IsRunBegun, IsRunText, RunExplains, StopsLeave, done_line};
 ghost use Rattle.graspan_top.specs.Stages.{IsReady, IsShowBegun, ShowExplains, shown_text};
 
 use crate::labels::shown_number;
@@ -109,6 +109,7 @@ fn closed_store<I: Inputs, D: Disk>(
     ensures cause { IfErr result (λ fault. (show : Option (List ℕ)) (after : Contents) → RunExplains (record { told = I.told inputs.old; tells = D.tells; before = D.seen disk.old }) files.now.edges.now files.now.grammar.now show after
         (Rose (I.faults inputs.old files.now.edges.now) (I.faults inputs.new files.now.edges.now)) (Rose (I.faults inputs.old files.now.grammar.now) (I.faults inputs.new files.now.grammar.now)) (DiskRose (D.faults disk.old) (D.faults disk.new)) ⊥ fault) }
     ensures fails { IfErr result (λ fault. fault ≢ Done) }
+    ensures stops { StopsLeave D.may_leave D.moment D.left_since (I.told inputs.old) files.now.edges.now files.now.grammar.now disk.old disk.new }
     ensures kept { I.told inputs.new ≡ I.told inputs.old }
     ensures others { (other : List ℕ) → I.faults inputs.old other ≤ I.faults inputs.new other }
     ensures later { D.faults disk.old ≤ D.faults disk.new }
@@ -133,6 +134,7 @@ pub(crate) fn run<I: Inputs, D: Disk, O: Sink>(
     ensures begun { Begins D.tells (IsNothingOr (IsRunBegun (D.seen disk.new) (option_map (λ l. l.now) show.entry))) (O.told out.old) (O.told out.new) (status_of result) }
     ensures exact { IsTrue D.tells → (g e : List ℕ) → I.told inputs.old files.now.grammar.now ≡ Some g → I.told inputs.old files.now.edges.now ≡ Some e → IsLeft (texts_of g e) (D.seen disk.old) → status_of result ≡ Done
         → AreExact (texts_of g e) (D.seen disk.new) × ((c : Contents) → D.may_leave disk.new c → AreExact (texts_of g e) c) }
+    ensures stops { StopsLeave D.may_leave D.moment D.left_since (I.told inputs.old) files.now.edges.now files.now.grammar.now disk.old disk.new }
     ensures kept { I.told inputs.new ≡ I.told inputs.old }
     ensures others { (other : List ℕ) → I.faults inputs.old other ≤ I.faults inputs.new other }
     ensures later { D.faults disk.old ≤ D.faults disk.new }

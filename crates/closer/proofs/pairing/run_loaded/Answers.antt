@@ -24,8 +24,8 @@ run_pair-requires-clause-room c =
 
 pub returns : goal.returns
 returns c =
-    are_run c.args.store.now c.manifest.ensures.store c.requires.0 c.requires.1 c.added-rounds.result c.args.low c.args.high c.in_ok-low.low c.in_ok-low.high c.run_pair.new.rows c.requires.2 c.in_ok-low.ensures (c.run_pair.ensures.low ∙ ap (λ (l : Loaded). l.low) c.in_ok-rows.ensures) (c.run_pair.ensures.high ∙ ap (λ (l : Loaded). l.high) c.in_ok-rows.ensures) c.limits.ensures
+    are_run c.args.store.now c.manifest.ensures.store c.args.since c.requires.0 c.requires.1 c.added-rounds.result c.args.low c.args.high c.in_ok-low.low c.in_ok-low.high c.run_pair.new.rows c.requires.2 c.in_ok-low.ensures (c.run_pair.ensures.low ∙ ap (λ (l : Loaded). l.low) c.in_ok-rows.ensures) (c.run_pair.ensures.high ∙ ap (λ (l : Loaded). l.high) c.in_ok-rows.ensures) c.limits.ensures
     c.lo-lo.ensures.part c.keeps_rules.ensures c.run_pair.ensures.format
     (λ budget le.
-    run_moved _ (normal_form c.args.store.now.rules) _ _ _ c.args.store.now.manifest.round budget _ _ c.added-rounds.result c.run_pair.new.rows.edges (ap (λ (r : List Rule). normal_form r) c.normal.ensures.normal) (ap (λ (l : Loaded). l.edges) c.in_ok-rows.ensures) (ap (λ (m : Manifest). m.round) c.manifest.ensures.manifest) c.added-rounds.ensures.closed (sym c.added-rounds.ensures.rounds)
+    run_moved _ (normal_form c.args.store.now.rules) _ _ c.args.since _ c.args.store.now.manifest.round budget _ _ c.added-rounds.result c.run_pair.new.rows.edges (ap (λ (r : List Rule). normal_form r) c.normal.ensures.normal) (ap (λ (l : Loaded). l.edges) c.in_ok-rows.ensures) (ap (λ (m : Manifest). m.round) c.manifest.ensures.manifest) c.added-rounds.ensures.closed (sym c.added-rounds.ensures.rounds)
     (c.in_ok-end.ensures.run budget le))

@@ -1,8 +1,9 @@
 use Rattle.std.proofs.Common.{◌≤◌, arith, sym, subst}
 use Rattle.disk_model.specs.Disk.{Contents}
+use Rattle.manifest.specs.declared.types.Manifest.{Manifest}
 use Rattle.disk_model.specs.Run.{if_ok}
 use Rattle.open_store.proofs.Causes.{handed}
-use Rattle.closer.specs.Making.{ArePut, IsNext, MayPutPair}
+use Rattle.closer.specs.Making.{ArePut, IsLeastMarkIn, IsNext, MayPutPair}
 use Rattle.closer.proofs.Closings.{blamed_turned, cause_more, high_within}
 use Rattle.closer.proofs.Images.{further, looked}
 use Rattle.closer.proofs.Nexting.{may_put_pair}
@@ -25,7 +26,7 @@ put_pair-requires g c =
     let ran = c.in_ok-ran.ran in
     record {
       may = subst (λ (x : Contents). MayPutPair s D.tells x low high ran.low ran.high c.in_ok-next.next) (sym c.load_pair.ensures.looks.same_seen)
-          (may_put_pair s c.marked.ensures.store.fits c.args.i c.args.j ran.rounds c.in_ok-next.next c.in_ok-next.ensures.marked D.tells (D.seen c.args.disk.now) low high c.in_ok-first.first c.in_ok-first.second ran.low ran.high c.in_ok-first.ensures.loaded c.in_ok-first.ensures.spelled c.in_ok-ran.ensures);
+          (may_put_pair s c.marked.ensures.store.fits c.args.i c.args.j ran.rounds c.in_ok-next.next c.in_ok-next.ensures.marked D.tells (D.seen c.args.disk.now) c.least_mark-since.result low high c.in_ok-first.first c.in_ok-first.second ran.low ran.high c.in_ok-first.ensures.loaded c.in_ok-first.ensures.spelled c.in_ok-ran.ensures);
     }
 
 pub returns-clause-next : goal.returns-clause-next
@@ -46,6 +47,8 @@ returns-clause-next g c =
       q' = ran.high;
       k = ran.rounds;
       start = c.in_ok-next.next;
+      since = c.least_mark-since.result;
+      least = subst (λ (m : Manifest). IsLeastMarkIn m c.args.i c.args.j c.least_mark-since.result) c.manifest.ensures.manifest c.least_mark-since.ensures;
       loaded = c.in_ok-first.ensures.loaded;
       spelled = c.in_ok-first.ensures.spelled;
       run = c.in_ok-ran.ensures;

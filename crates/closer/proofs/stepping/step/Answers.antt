@@ -11,7 +11,7 @@ pick-requires g c = same_size c.manifest-manifest.result.now c.args.store.manife
 pub close_pair-requires : goal.close_pair-requires
 close_pair-requires g c =
     let pick = picked c.manifest-manifest.result.now c.args.store.manifest c.in-Some.i c.in-Some.j c.manifest-manifest.ensures.manifest c.manifest-manifest.ensures.store.fits c.in-Some.ensures.some in
-    record { i = pick.first_below; j = pick.second_below }
+    record { i = pick.first_below; j = pick.second_below; some = pick.dirty.0 }
 
 pub commit-requires-clause-fits : goal.commit-requires-clause-fits
 commit-requires-clause-fits g c =
