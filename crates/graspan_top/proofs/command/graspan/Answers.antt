@@ -90,3 +90,8 @@ returns-in-Err-clause-begun g c = λ d reading.
     let old = O.told c.args.out.now in
     let new = O.told c.end-in-Err.new.out in
     begins D.tells (IsBegunOf (D.seen c.args.disk.now) d) old old new (Rose (O.faults c.args.out.now) (O.faults c.end-in-Err.new.out)) c.end-in-Err.result (nothing_begun_of D.tells (D.seen c.args.disk.now) d old c.end-in-Err.result) c.end-in-Err.ensures.ends
+
+pub returns-in-Ok-clause-stops : goal.returns-in-Ok-clause-stops
+returns-in-Ok-clause-stops g c = λ edges grammar options show reading.
+    let same : said c.in-Ok.command ≡ run edges grammar options show = one_reading c.args.words.now (said c.in-Ok.command) (run edges grammar options show) c.in-Ok.ensures.reading reading in
+    c.carry_out-ended.ensures.stops edges grammar options show same

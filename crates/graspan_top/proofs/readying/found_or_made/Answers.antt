@@ -11,6 +11,7 @@ use Rattle.io_edge.specs.Devices.{Rose}
 use Rattle.open_store.specs.declared.opening.Opened.{Opened as OpenedT}
 use Rattle.graspan_top.proofs.ExplainLemmas.{compare_handed, if_err, open_explains, rose_later}
 use Rattle.graspan_top.proofs.ReadyLemmas.{found_current, found_ready, import_ready_ok}
+use Rattle.graspan_top.proofs.StopLemmas.{stops_importing, stops_looking, stops_opening}
 use Rattle.graspan_top.proofs.readying.found_or_made.Goals as goal
 
 pub returns-in_err-open-clause-cause : goal.returns-in_err-open-clause-cause
@@ -55,3 +56,34 @@ returns-in_ok-compare-in-Found-clause-ready g c =
     (λ image now. subst (IsOpenedAlone image) c.in-Found.is (c.in_ok-open.ensures.alone refl image (looks.no_more image now)))
     (λ image now f. c.in_ok-open.ensures.synced refl image (looks.no_more image now) f ∙ sym (ap (λ (k : Contents). k f) looks.same_seen))
     c.in_ok-compare-in-Found.ensures.same_grammar c.in_ok-compare-in-Found.ensures.same_edges
+
+pub returns-in_err-open-clause-stops : goal.returns-in_err-open-clause-stops
+returns-in_err-open-clause-stops g c =
+    let D = g.D.Disk in
+    let L = g.met.D.Disk in
+    stops_opening D.seen D.may_leave D.moment D.left_since L.counts_now L.only_now (g.I.Inputs.told c.args.inputs.now) c.args.files.now.edges.now c.args.files.now.grammar.now c.args.disk.now c.open.new.disk c.open.ensures.any_moment
+
+pub returns-in_err-compare-in-Found-clause-stops : goal.returns-in_err-compare-in-Found-clause-stops
+returns-in_err-compare-in-Found-clause-stops g c =
+    let D = g.D.Disk in
+    let L = g.met.D.Disk in
+    stops_looking D.seen D.may_leave D.moment D.left_since L.counts_now L.only_now (g.I.Inputs.told c.args.inputs.now) c.args.files.now.edges.now c.args.files.now.grammar.now c.args.disk.now c.open.new.disk c.compare.new.disk
+    (stops_opening D.seen D.may_leave D.moment D.left_since L.counts_now L.only_now (g.I.Inputs.told c.args.inputs.now) c.args.files.now.edges.now c.args.files.now.grammar.now c.args.disk.now c.open.new.disk c.open.ensures.any_moment)
+    c.compare.ensures.looks
+
+pub returns-in_ok-compare-in-Found-clause-stops : goal.returns-in_ok-compare-in-Found-clause-stops
+returns-in_ok-compare-in-Found-clause-stops g c =
+    let D = g.D.Disk in
+    let L = g.met.D.Disk in
+    stops_looking D.seen D.may_leave D.moment D.left_since L.counts_now L.only_now (g.I.Inputs.told c.args.inputs.now) c.args.files.now.edges.now c.args.files.now.grammar.now c.args.disk.now c.open.new.disk c.compare.new.disk
+    (stops_opening D.seen D.may_leave D.moment D.left_since L.counts_now L.only_now (g.I.Inputs.told c.args.inputs.now) c.args.files.now.edges.now c.args.files.now.grammar.now c.args.disk.now c.open.new.disk c.open.ensures.any_moment)
+    c.compare.ensures.looks
+
+pub returns-in-Blank-clause-stops : goal.returns-in-Blank-clause-stops
+returns-in-Blank-clause-stops g c =
+    let D = g.D.Disk in
+    let L = g.met.D.Disk in
+    stops_importing D.seen D.may_leave D.moment D.left_since L.counts_now L.only_now (g.I.Inputs.told c.args.inputs.now) c.args.files.now.edges.now c.args.files.now.grammar.now c.args.disk.now c.open.new.disk c.import.new.disk c.args.grammar.now c.args.limit c.requires
+    (stops_opening D.seen D.may_leave D.moment D.left_since L.counts_now L.only_now (g.I.Inputs.told c.args.inputs.now) c.args.files.now.edges.now c.args.files.now.grammar.now c.args.disk.now c.open.new.disk c.open.ensures.any_moment)
+    (λ image now. subst (IsOpenedAlone image) c.in-Blank.is (c.in_ok-open.ensures.alone refl image now))
+    c.import.ensures.any_moment

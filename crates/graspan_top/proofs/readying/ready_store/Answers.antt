@@ -1,9 +1,10 @@
-use Rattle.std.proofs.Common.{ℕ, ◌≤◌, List, arith}
+use Rattle.std.proofs.Common.{ℕ, ◌≤◌, List, Option, subst, arith}
 use Rattle.disk_model.specs.Disk.{Rose as DiskRose}
 use Rattle.io_edge.specs.Devices.{Rose}
 use Rattle.graspan_top.specs.Faults.{of_store}
 use Rattle.graspan_top.specs.Given.{Given}
 use Rattle.graspan_top.proofs.ExplainLemmas.{if_err, not_done, rose_later, told_later}
+use Rattle.graspan_top.specs.Run.{StopsLeave}
 use Rattle.graspan_top.proofs.readying.ready_store.Goals as goal
 
 pub returns-in_err-found_or_made-clause-cause : goal.returns-in_err-found_or_made-clause-cause
@@ -28,3 +29,8 @@ returns-in_err-found_or_made-clause-cause g c =
 
 pub returns-in_err-found_or_made-clause-fails : goal.returns-in_err-found_or_made-clause-fails
 returns-in_err-found_or_made-clause-fails g c = if_err c.from_residual-in_err-found_or_made.result (of_store c.in_err-found_or_made.field-0.0) _ c.from_residual-in_err-found_or_made.ensures.1 (not_done c.in_err-found_or_made.field-0.0)
+
+pub returns-clause-stops : goal.returns-clause-stops
+returns-clause-stops g c =
+    let D = g.D.Disk in
+    subst (λ (told : List ℕ → Option (List ℕ)). StopsLeave D.may_leave D.moment D.left_since told c.args.files.now.edges.now c.args.files.now.grammar.now c.args.disk.now c.found_or_made.new.disk) c.read_grammar_file.ensures.kept c.found_or_made.ensures.stops

@@ -7,6 +7,7 @@ use Rattle.graspan_top.specs.Faults.{of_store}
 use Rattle.graspan_top.specs.Given.{Given}
 use Rattle.graspan_top.proofs.ExplainLemmas.{close_handed, if_err, not_done, rose_later}
 use Rattle.graspan_top.proofs.ReadyLemmas.{closed_ready}
+use Rattle.graspan_top.proofs.StopLemmas.{stops_closing}
 use Rattle.graspan_top.proofs.running.closed_store.Goals as goal
 
 pub returns-in_err-run_to_end-clause-cause : goal.returns-in_err-run_to_end-clause-cause
@@ -35,3 +36,19 @@ returns-clause-ready g c =
 
 pub returns-in_err-run_to_end-clause-fails : goal.returns-in_err-run_to_end-clause-fails
 returns-in_err-run_to_end-clause-fails g c = if_err c.from_residual-in_err-run_to_end.result (of_store c.in_err-run_to_end.field-0.0) _ c.from_residual-in_err-run_to_end.ensures.1 (not_done c.in_err-run_to_end.field-0.0)
+
+pub returns-in_err-run_to_end-clause-stops : goal.returns-in_err-run_to_end-clause-stops
+returns-in_err-run_to_end-clause-stops g c =
+    let D = g.D.Disk in
+    let L = g.met.D.Disk in
+    stops_closing D.seen D.may_leave D.moment D.left_since L.counts_now L.only_now (g.I.Inputs.told c.args.inputs.now) c.args.files.now.edges.now c.args.files.now.grammar.now c.args.disk.now c.ready_store.new.disk c.run_to_end.new.disk c.in_ok-store.store c.ready_store.ensures.stops c.in_ok-store.ensures.ready.held
+    (λ image there. L.honest c.ready_store.new.disk (L.told c.ready_store.new.disk image there))
+    c.run_to_end.ensures.any_moment
+
+pub returns-clause-stops : goal.returns-clause-stops
+returns-clause-stops g c =
+    let D = g.D.Disk in
+    let L = g.met.D.Disk in
+    stops_closing D.seen D.may_leave D.moment D.left_since L.counts_now L.only_now (g.I.Inputs.told c.args.inputs.now) c.args.files.now.edges.now c.args.files.now.grammar.now c.args.disk.now c.ready_store.new.disk c.run_to_end.new.disk c.in_ok-store.store c.ready_store.ensures.stops c.in_ok-store.ensures.ready.held
+    (λ image there. L.honest c.ready_store.new.disk (L.told c.ready_store.new.disk image there))
+    c.run_to_end.ensures.any_moment

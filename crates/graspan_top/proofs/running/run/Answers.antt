@@ -13,6 +13,7 @@ use Rattle.graspan_top.proofs.ExplainLemmas.{explains_later, rose_later, show_ex
 use Rattle.graspan_top.proofs.PrintLemmas.{nothing_first}
 use Rattle.graspan_top.proofs.ReadyLemmas.{exact_end}
 use Rattle.graspan_top.proofs.TextLemmas.{nothing_begun}
+use Rattle.graspan_top.proofs.StopLemmas.{stops_looking}
 use Rattle.graspan_top.proofs.running.run.Goals as goal
 
 pub returns-in_err-store-clause-explained : goal.returns-in_err-store-clause-explained
@@ -89,3 +90,9 @@ returns-clause-begun g c =
     let O = g.O.Sink in
     let show : Option (List ℕ) = option_map (λ l. l.now) c.args.show in
     subst (λ (k : Contents). Begins D.tells (IsNothingOr (IsRunBegun k show)) (O.told c.args.out.now) (O.told c.show_run.new.out) (status_of c.show_run.result)) (sym c.show_run.ensures.looks.same_seen) c.show_run.ensures.begun
+
+pub returns-clause-stops : goal.returns-clause-stops
+returns-clause-stops g c =
+    let D = g.D.Disk in
+    let L = g.met.D.Disk in
+    stops_looking D.seen D.may_leave D.moment D.left_since L.counts_now L.only_now (g.I.Inputs.told c.args.inputs.now) c.args.files.now.edges.now c.args.files.now.grammar.now c.args.disk.now c.closed_store.new.disk c.show_run.new.disk c.closed_store.ensures.stops c.show_run.ensures.looks
