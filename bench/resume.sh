@@ -13,7 +13,8 @@ program=$top/crates/graspan/out/graspan
 run() { "$program" "$1" run "$data/less-search.edges" "$data/alias.grammar" --part-edges 300 --show M; }
 
 run "$folder/whole" >"$folder/whole.out"
-run "$folder/killed" >"$folder/killed.out" &
+# the program itself and no function around it, so that the signal meets it
+"$program" "$folder/killed" run "$data/less-search.edges" "$data/alias.grammar" --part-edges 300 --show M >"$folder/killed.out" &
 sleep "$wait"
 if kill -KILL $! 2>/dev/null; then
     wait $! 2>/dev/null || true
