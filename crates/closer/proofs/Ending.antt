@@ -30,10 +30,7 @@ module _ (s : OpenStore) (is : IsOpenStore s) (tells : Bool) (old new : Contents
       record {
         generation = marked.generation;
         round_is = marked.round;
-        vertices = marked.vertices;
-        grammar_len = marked.grammar_len;
-        edges_len = marked.edges_len;
-        labels = marked.labels;
+        same = marked.same;
         ends = ends_start s.manifest is.fits i j k start marked;
         well = well_start s.manifest is.fits i j k start marked;
         joined = marked.joined;

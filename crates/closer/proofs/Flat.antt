@@ -27,6 +27,7 @@ use Rattle.closer.proofs.Nexting.{ends_start, in_part, kept_start, size_start}
 use Rattle.closer.proofs.Running.{born_before, vertices_stay}
 use Rattle.closer.proofs.Sums.{row_sum, sum_changed, sum_same, table_sum, two_changed}
 use Rattle.closer.proofs.Turning.{KeptIn, NewIn, Turns}
+use Rattle.closer.proofs.SameTexts.{same_further}
 
 pub is_it : (x y : ℕ) → (x ≡ y) ⊎ (x ≢ y)
 is_it x y = by_test (x == y) refl
@@ -51,10 +52,7 @@ took m start next i j k round a edges t o =
     record {
       generation = o.generation ∙ t.generation;
       round_is = o.round_is ∙ t.round_is;
-      vertices = o.vertices ∙ t.vertices;
-      grammar_len = o.grammar_len ∙ t.grammar_len;
-      edges_len = o.edges_len ∙ t.edges_len;
-      labels = o.labels ∙ t.labels;
+      same = same_further m start next t.same o.same;
       ends = o.ends ∙ t.ends;
       well = o.well;
       joined = λ x y. o.joined x y ∙ t.joined x y;

@@ -21,24 +21,13 @@ use Rattle.manifest_switch.specs.Steps.{IsAmid, Stays, Switches}
 use Rattle.manifest_switch.proofs.LawLemmas.{alone_law}
 use Rattle.store_law.specs.Listed.{part_file}
 use Rattle.store_law.specs.Steps.{IsFree}
+use Rattle.store_law.proofs.Keeping.{file_above, file_apart, keeps_copies, kept_since}
 use Rattle.open_store.specs.Copy.{IsCopyRead}
 use Rattle.open_store.specs.Store.{IsHeldAlone, OpenStore}
 use Rattle.closer.specs.Continuing.{Continues, GoesOn, Retains}
 use Rattle.closer.specs.Answers.{Moves}
 use Rattle.closer.specs.Making.{Spares}
 use Rattle.closer.proofs.LawLemmas.{continues_elsewhere, continues_further}
-
-no_entry : PartEntry
-no_entry = record { hi = 0; file = 0 }
-
-entry_file : (m : Manifest) (i : ℕ) → i < length m.parts → part_file m i ≡ (get_or m.parts i no_entry).file
-entry_file m i lt = get_or-map (λ (p : PartEntry). p.file) m.parts i no_entry 0 lt
-
-pub file_above : (m : Manifest) (i : ℕ) → Fits m → i < length m.parts → 4 ≤ part_file m i
-file_above m i fits lt = let from = (fits.files i no_entry lt).0 in omega (arith, from, entry_file m i lt)
-
-pub file_apart : (m : Manifest) (f i : ℕ) → i < length m.parts → IsFree m f → part_file m i ≢ f
-file_apart m f i lt free same = free.unnamed i no_entry lt (sym (entry_file m i lt) ∙ same)
 
 -- ---- steps that spare a manifest
 
@@ -59,9 +48,7 @@ pub spared_retains : (m : Manifest) (d c : Contents) → Spares m d c → Retain
 spared_retains m d c s =
     record {
       same = same_current d c (s.below 0 (omega arith)) (s.below 1 (omega arith));
-      grammar_copy = s.below 2 (omega arith);
-      edges_copy = s.below 3 (omega arith);
-      parts = s.parts;
+      files = record { copies = keeps_copies m d c (s.below 2 (omega arith)) (s.below 3 (omega arith)); parts = s.parts };
     }
 
 slot_below : (s : Slot) → file_of s < 4
@@ -92,15 +79,20 @@ retains_stays : (m : Manifest) (d e c : Contents) → Fits m → Spares m d e �
 retains_stays m d e c fits s t =
     record {
       same = t.same ∙ same_current d e (s.below 0 (omega arith)) (s.below 1 (omega arith));
-      grammar_copy = t.others 2 (omega arith) (omega arith) ∙ s.below 2 (omega arith);
-      edges_copy = t.others 3 (omega arith) (omega arith) ∙ s.below 3 (omega arith);
-      parts = λ i lt. let a = file_above m i fits lt in t.others (part_file m i) (λ e. omega (arith, a, e)) (λ e. omega (arith, a, e)) ∙ s.parts i lt;
+      files = record {
+        copies = keeps_copies m d c (t.others 2 (omega arith) (omega arith) ∙ s.below 2 (omega arith)) (t.others 3 (omega arith) (omega arith) ∙ s.below 3 (omega arith));
+        parts = λ i lt. let a = file_above m i lt fits in t.others (part_file m i) (λ e. omega (arith, a, e)) (λ e. omega (arith, a, e)) ∙ s.parts i lt;
+      };
     }
 
 -- where all files but the slots are as before
 pub continues_beside : (n : Normal) (k : ℕ) (c d e : Contents) (m next : Manifest) → Continues n k c m d next → ((f : ℕ) → f ≢ 0 → f ≢ 1 → e f ≡ d f) → Continues n k c m e next
 continues_beside n k c d e m next on others =
-    continues_elsewhere n k c d e m next on (others 2 (omega arith) (omega arith)) (others 3 (omega arith) (omega arith)) (λ i lt. let a = file_above next i on.fits lt in others (part_file next i) (λ x. omega (arith, a, x)) (λ x. omega (arith, a, x)))
+    continues_elsewhere n k c d e m next on
+    (record {
+      copies = keeps_copies next d e (others 2 (omega arith) (omega arith)) (others 3 (omega arith) (omega arith));
+      parts = λ i lt. let a = file_above next i lt on.fits in others (part_file next i) (λ x. omega (arith, a, x)) (λ x. omega (arith, a, x));
+    })
 
 module _ {D : Type 0} (seen : D → Contents) (moment : D → ℕ) (left_since : D → ℕ → Contents → Type 0) (images : D → Contents → Type 0) (counts_now : (x : D) (t : ℕ) (c : Contents) → t ≤ moment x → images x c → left_since x t c) (only_now : (x : D) (c : Contents) → left_since x (moment x) c → images x c) where
   -- ---- before the switch
@@ -206,6 +198,6 @@ module _ {D : Type 0} (seen : D → Contents) (moment : D → ℕ) (left_since :
               steps = o.0;
               current = from.2.same ∙ alone_law t.slot t.manifest from.0 (held from.0 from.1).only;
               continues =
-                  continues_elsewhere (normal_form s.rules) o.0 (seen old) (seen now) c s.manifest t.manifest o.1 (from.2.grammar_copy ∙ just from.0 from.1 2) (from.2.edges_copy ∙ just from.0 from.1 3) (λ i lt. from.2.parts i lt ∙ just from.0 from.1 (part_file t.manifest i));
+                  continues_elsewhere (normal_form s.rules) o.0 (seen old) (seen now) c s.manifest t.manifest o.1 (kept_since t.manifest (seen now) from.0 c (just from.0 from.1) from.2.files);
             }),
       )

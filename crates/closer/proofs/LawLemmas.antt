@@ -15,47 +15,19 @@ use Rattle.disk_model.specs.Disk.{Contents}
 use Rattle.partition_file.specs.Spelling.{Spells}
 use Rattle.manifest.specs.declared.types.Manifest.{Manifest}
 use Rattle.manifest.specs.Spelling.{Fits}
-use Rattle.store_law.specs.Texts.{Texts, graph, normal, rules}
+use Rattle.store_law.specs.Texts.{Texts, graph, normal, rules, edges_text}
 use Rattle.store_law.specs.Listed.{AreListed, part_file, part_of, state_in}
 use Rattle.store_law.specs.Left.{IsCopy, IsLeft, IsOfTexts, IsStore, IsStoreOf}
+use Rattle.store_law.specs.Steps.{KeepsFiles}
+use Rattle.store_law.proofs.Keeping.{listed_kept, store_kept}
 use Rattle.store_law.proofs.Named.{task_of_texts}
 use Rattle.open_store.specs.Copy.{IsCopyRead}
 use Rattle.open_store.specs.Store.{OpenStore}
 use Rattle.closer.specs.Continuing.{AfterSteps, Continues, GoesOn, IsWholePass, Retains}
+use Rattle.closer.proofs.SameTexts.{copies_further, same_further, same_here}
 
--- ---- files that are as they were
-
-pub listed_elsewhere : (c d : Contents) (m : Manifest) (fresh : ℕ) (parts : List (List Born)) → ((i : ℕ) → i < length m.parts → d (part_file m i) ≡ c (part_file m i)) → AreListed c m fresh parts → AreListed d m fresh parts
-listed_elsewhere c d m fresh parts files s =
-    record {
-      size = s.size;
-      spells = λ i lt. subst (λ (l : List ℕ). Spells l (part_of m i (slice_index_or parts i []))) (sym (files i lt)) (s.spells i lt);
-      fits = s.fits;
-    }
-
-texts_elsewhere : (t : Texts) (d c : Contents) (m : Manifest) → c 2 ≡ d 2 → c 3 ≡ d 3 → IsOfTexts t d m → IsOfTexts t c m
-texts_elsewhere t d c m grammar edges s =
-    record {
-      good = s.good;
-      fits = s.fits;
-      grammar_copy = subst (λ (l : List ℕ). IsCopy t.grammar l m.grammar_len) (sym grammar) s.grammar_copy;
-      edges_copy = subst (λ (l : List ℕ). IsCopy t.edges l m.edges_len) (sym edges) s.edges_copy;
-      labels = s.labels;
-      vertices = s.vertices;
-    }
-
-pub store_kept : (t : Texts) (d c : Contents) (m : Manifest) (parts : List (List Born)) → IsStore t d m parts → Retains m d c → IsStore t c m parts
-store_kept t d c m parts s r =
-    record {
-      slot = s.slot;
-      current = r.same ∙ s.current;
-      rest = record {
-        texts = texts_elsewhere t d c m r.grammar_copy r.edges_copy s.rest.texts;
-        listed = listed_elsewhere d c m (normal t).fresh parts r.parts s.rest.listed;
-        holds = s.rest.holds;
-        tells = s.rest.tells;
-      };
-    }
+pub retains_store : (t : Texts) (d c : Contents) (m : Manifest) (parts : List (List Born)) → IsStore t d m parts → Retains m d c → IsStore t c m parts
+retains_store t d c m parts s r = store_kept t d c m parts r.same r.files s
 
 -- ---- steps
 
@@ -70,10 +42,10 @@ texts_after t c d k m next s on =
     record {
       good = s.good;
       fits = on.fits;
-      grammar_copy = subst (λ (l : List ℕ). IsCopy t.grammar l next.grammar_len) (sym on.grammar_copy) (subst (λ (x : ℕ). IsCopy t.grammar (c 2) x) (sym on.grammar_len) s.grammar_copy);
-      edges_copy = subst (λ (l : List ℕ). IsCopy t.edges l next.edges_len) (sym on.edges_copy) (subst (λ (x : ℕ). IsCopy t.edges (c 3) x) (sym on.edges_len) s.edges_copy);
-      labels = on.labels ∙ s.labels;
-      vertices = on.vertices ∙ s.vertices;
+      grammar_copy = subst (λ (x : ℕ). IsCopy t.grammar (d 2) x) (sym on.same.grammar_len) (record { bytes = on.copies.grammar ∙ s.grammar_copy.bytes; all = s.grammar_copy.all });
+      edges_copy = subst (λ (x : ℕ). IsCopy (edges_text t) (d 3) x) (sym on.same.edges_len) (record { bytes = on.copies.edges ∙ s.edges_copy.bytes; all = s.edges_copy.all });
+      labels = on.same.labels ∙ s.labels;
+      vertices = on.same.vertices ∙ s.vertices;
     }
 
 abbrev IsAfter : Texts → ℕ → Contents → State → Manifest → Type 0
@@ -103,7 +75,7 @@ left_further t seen c m parts s on =
 pub rules_held : (t : Texts) (s : OpenStore) (c : Contents) → IsOfTexts t c s.manifest → IsCopyRead s.manifest (c 2) s.rules → s.rules ≡ rules t
 rules_held t s c texts copy =
     let r : ReadsGrammar t.grammar s.rules copy.names = subst (λ (l : List ℕ). ReadsGrammar l s.rules copy.names) texts.grammar_copy.bytes copy.reads in
-    r.rules_are (flat_map third (said (lines t.edges)))
+    r.rules_are (flat_map third (said (lines (edges_text t))))
 
 -- ---- how steps follow steps
 
@@ -120,12 +92,8 @@ pub continues_here : (n : Normal) (c : Contents) (m : Manifest) → Fits m → C
 continues_here n c m fits =
     record {
       fits = fits;
-      vertices = refl;
-      labels = refl;
-      grammar_len = refl;
-      edges_len = refl;
-      grammar_copy = refl;
-      edges_copy = refl;
+      same = same_here m;
+      copies = record { grammar = refl; edges = refl };
       steps = λ parts listed tells. (parts, listed, tells, refl);
     }
 
@@ -134,12 +102,8 @@ pub continues_further : (n : Normal) (k l : ℕ) (c d e : Contents) (m mid next 
 continues_further n k l c d e m mid next a b =
     record {
       fits = b.fits;
-      vertices = b.vertices ∙ a.vertices;
-      labels = b.labels ∙ a.labels;
-      grammar_len = b.grammar_len ∙ a.grammar_len;
-      edges_len = b.edges_len ∙ a.edges_len;
-      grammar_copy = b.grammar_copy ∙ a.grammar_copy;
-      edges_copy = b.edges_copy ∙ a.edges_copy;
+      same = same_further m mid next a.same b.same;
+      copies = copies_further m mid c d e a.same a.copies b.copies;
       steps = λ parts listed tells.
           let f = a.steps parts listed tells in
           let g = b.steps f.0 f.1 f.2 in
@@ -147,17 +111,13 @@ continues_further n k l c d e m mid next a b =
     }
 
 -- where the files that the last manifest needs are as before
-pub continues_elsewhere : (n : Normal) (k : ℕ) (c d e : Contents) (m next : Manifest) → Continues n k c m d next → e 2 ≡ d 2 → e 3 ≡ d 3 → ((i : ℕ) → i < length next.parts → e (part_file next i) ≡ d (part_file next i)) → Continues n k c m e next
-continues_elsewhere n k c d e m next a grammar edges files =
+pub continues_elsewhere : (n : Normal) (k : ℕ) (c d e : Contents) (m next : Manifest) → Continues n k c m d next → KeepsFiles next d e → Continues n k c m e next
+continues_elsewhere n k c d e m next a keeps =
     record {
       fits = a.fits;
-      vertices = a.vertices;
-      labels = a.labels;
-      grammar_len = a.grammar_len;
-      edges_len = a.edges_len;
-      grammar_copy = grammar ∙ a.grammar_copy;
-      edges_copy = edges ∙ a.edges_copy;
+      same = a.same;
+      copies = copies_further m next c d e a.same a.copies keeps.copies;
       steps = λ parts listed tells.
           let f = a.steps parts listed tells in
-          (f.0, listed_elsewhere d e next n.fresh f.0 files f.1, f.2, f.3);
+          (f.0, listed_kept d e next n.fresh f.0 keeps f.1, f.2, f.3);
     }

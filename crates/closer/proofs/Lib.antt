@@ -13,3 +13,5 @@ pub mod Images
 pub mod PutLemmas
 pub mod Rooming
 pub mod Closings
+pub mod SameTexts
+pub mod Blameless

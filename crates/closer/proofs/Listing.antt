@@ -35,7 +35,7 @@ ends_within from top [] (suc i) cut = (omega arith, omega arith, omega arith)
 ends_within from top (e ∷ es) zero cut = let later = ends_within e top es zero cut.1 in (omega (arith, cut.0, later.0), omega (arith, cut.0, later.0), later.0)
 ends_within from top (e ∷ es) (suc i) cut = let later = ends_within e top es i cut.1 in (omega (arith, cut.0, later.0), later.1, later.2)
 
-expected : (m : Manifest) (fresh i : ℕ) → Fits m → IsExpect (expect_of m fresh i)
+pub expected : (m : Manifest) (fresh i : ℕ) → Fits m → IsExpect (expect_of m fresh i)
 expected m fresh i fits =
     let within = ends_within 0 m.vertices (ends_of m) i (cut m fits) in
     record {
@@ -108,9 +108,9 @@ module _ (n : Normal) (m next : Manifest) (fits : Fits m) (i j k : ℕ) (t : Tur
   old_edge : (a : ℕ) (b : Born) → FitsEdge (expect_of m n.fresh a) b → FitsEdge (expect_of next n.fresh a) b
   old_edge a b f =
       record {
-        known = elim f.known [ inl lt ↦ inl (omega (arith, lt, ap length t.labels)) | inr fresh ↦ inr fresh ];
+        known = elim f.known [ inl lt ↦ inl (omega (arith, lt, ap length t.same.labels)) | inr fresh ↦ inr fresh ];
         number = f.number;
-        vertex = omega (arith, f.vertex, t.vertices);
+        vertex = omega (arith, f.vertex, t.same.vertices);
         earlier = omega (arith, f.earlier, t.round_is);
       }
 
@@ -119,9 +119,9 @@ module _ (n : Normal) (m next : Manifest) (fits : Fits m) (i j k : ℕ) (t : Tur
       let l = All-contains (λ (y : Born). y.edge.label.0 < 63000) edges b x.labels has in
       let v = All-contains (λ (y : Born). y.edge.dst.0 < m.vertices) edges b x.vertices has in
       record {
-        known = elim known [ inl lt ↦ inl (omega (arith, lt, ap length t.labels)) | inr fresh ↦ inr fresh ];
+        known = elim known [ inl lt ↦ inl (omega (arith, lt, ap length t.same.labels)) | inr fresh ↦ inr fresh ];
         number = omega (arith, l);
-        vertex = omega (arith, v, t.vertices);
+        vertex = omega (arith, v, t.same.vertices);
         earlier = All-contains (λ (y : Born). y.birth < next.round) edges b x.births has;
       }
 

@@ -10,8 +10,7 @@ use Rattle.closing_machine.specs.State.{greatest_birth}
 use Rattle.closing_machine.proofs.Members.{either}
 use Rattle.disk_model.specs.Disk.{Contents, Sets}
 use Rattle.disk_files.specs.Files.{only_set}
-use Rattle.partition_file.specs.declared.types.Format.TheVariants.{First}
-use Rattle.partition_file.specs.Spelling.{Part, Spells, spelling}
+use Rattle.partition_file.specs.Spelling.{newest_format, Part, Spells, spelling}
 use Rattle.dest_map.specs.Table.{entry}
 use Rattle.dest_map.proofs.TableLemmas.{entry_set}
 use Rattle.pair_sched.specs.Marks.{newest_of}
@@ -27,6 +26,7 @@ use Rattle.open_store.proofs.Tallies.{ends_count}
 use Rattle.closer.specs.Making.{ArePut, IsWell, MayPut, MayPutPair, Puts, Refiles, Replaces, TakesOn}
 use Rattle.closer.proofs.Flat.{is_it}
 use Rattle.closer.proofs.Images.{spares_only, spares_refl}
+use Rattle.closer.proofs.SameTexts.{same_here}
 
 -- ---- the files
 
@@ -108,10 +108,7 @@ takes_new round a file newest ends edges row next after b there well r least mos
     record {
       generation = r.generation;
       round_is = r.round_is;
-      vertices = r.vertices;
-      grammar_len = r.grammar_len;
-      edges_len = r.edges_len;
-      labels = r.labels;
+      same = r.same;
       ends = r.refiles.his;
       well = record {
         few = omega (arith, len, well.few);
@@ -146,10 +143,7 @@ takes_none s tells c a p next may old =
     record {
       generation = refl;
       round_is = refl;
-      vertices = refl;
-      grammar_len = refl;
-      edges_len = refl;
-      labels = refl;
+      same = same_here next;
       ends = refl;
       well = may.well;
       joined = λ x y. refl;
@@ -163,11 +157,11 @@ takes_none s tells c a p next may old =
 
 -- ---- the disk
 
-pub puts_new : (m : Manifest) (a file newest : ℕ) (row : List ℕ) (p : Part) (next after : Manifest) (old new : Contents) → a < length next.parts → Replaces next a file row newest after → IsFree m file → All (λ q. q.file ≢ file) next.parts → Sets file (spelling First p) old new → Puts m a p next after old new
+pub puts_new : (m : Manifest) (a file newest : ℕ) (row : List ℕ) (p : Part) (next after : Manifest) (old new : Contents) → a < length next.parts → Replaces next a file row newest after → IsFree m file → All (λ q. q.file ≢ file) next.parts → Sets file (spelling newest_format p) old new → Puts m a p next after old new
 puts_new m a file newest row p next after old new there r free untaken sets =
     record {
-      spares = spares_only m file old new free (only_set file (spelling First p) old new sets);
-      spelled = subst (λ (f : ℕ). Spells (new f) p) (sym (file_here a file next.parts after.parts r.refiles there)) (First, sets.here);
+      spares = spares_only m file old new free (only_set file (spelling newest_format p) old new sets);
+      spelled = subst (λ (f : ℕ). Spells (new f) p) (sym (file_here a file next.parts after.parts r.refiles there)) (newest_format, sets.here);
       others = λ x lt ne. sets.others (part_file next x) (λ same. untaken x no_entry lt (sym (get_or-map (λ (q : PartEntry). q.file) next.parts x no_entry 0 lt) ∙ same));
     }
   where

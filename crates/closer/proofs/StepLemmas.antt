@@ -38,6 +38,7 @@ use Rattle.closer.proofs.Least.{least_told}
 use Rattle.closer.proofs.Nexting.{file_start, in_part}
 use Rattle.closer.proofs.Running.{IsKnown, joins_known, labels_stay}
 use Rattle.closer.proofs.Turning.{NewIn, Turns}
+use Rattle.store_law.proofs.Keeping.{keeps_copies}
 
 -- a superstep whose first round goes over joins since a birth
 abbrev Since : Normal → ℕ → ℕ → ℕ → ℕ → State → State → Type 0
@@ -148,12 +149,8 @@ module _ (s : OpenStore) (is : IsOpenStore s) (left : All (λ r. r.left.0 < leng
     goes_on_one =
         record {
           fits = fits_next;
-          vertices = t1.vertices;
-          labels = t1.labels;
-          grammar_len = t1.grammar_len;
-          edges_len = t1.edges_len;
-          grammar_copy = put.spares.below 2 (omega arith);
-          edges_copy = put.spares.below 3 (omega arith);
+          same = t1.same;
+          copies = keeps_copies m old new (put.spares.below 2 (omega arith)) (put.spares.below 3 (omega arith));
           steps = λ parts listed tells.
               let after = slice_set parts first p'.edges in
               let size = length-set parts first p'.edges in
@@ -229,12 +226,8 @@ module _ (s : OpenStore) (is : IsOpenStore s) (left : All (λ r. r.left.0 < leng
     goes_on_two =
         record {
           fits = fits_next;
-          vertices = t2.vertices;
-          labels = t2.labels;
-          grammar_len = t2.grammar_len;
-          edges_len = t2.edges_len;
-          grammar_copy = put'.spares.below 2 (omega arith) ∙ put.spares.below 2 (omega arith);
-          edges_copy = put'.spares.below 3 (omega arith) ∙ put.spares.below 3 (omega arith);
+          same = t2.same;
+          copies = keeps_copies m old new (put'.spares.below 2 (omega arith) ∙ put.spares.below 2 (omega arith)) (put'.spares.below 3 (omega arith) ∙ put.spares.below 3 (omega arith));
           steps = λ parts listed tells.
               let after = after_two parts in
               let size = length-set (slice_set parts first p'.edges) last q'.edges ∙ length-set parts first p'.edges in

@@ -16,6 +16,7 @@ use Rattle.pair_sched.specs.Marks.{joined_of, newest_of}
 use Rattle.manifest.specs.declared.types.PartEntry.{PartEntry}
 use Rattle.manifest.specs.declared.types.Manifest.{Manifest}
 use Rattle.manifest.specs.Spelling.{Cover, Fits, width}
+use Rattle.manifest.specs.Same.{AreOfSameTexts}
 use Rattle.manifest_switch.specs.Slots.{next_generation}
 use Rattle.store_law.specs.Listed.{ends_of, part_of}
 use Rattle.open_store.specs.Reading.{count_into}
@@ -42,10 +43,7 @@ pub record NewIn (m next : Manifest) (a : ℕ) (edges : List Born) : Type 0 wher
 pub record Turns (m next : Manifest) (i j k : ℕ) : Type 0 where
   pub generation : next.generation ≡ next_generation m.generation
   pub round_is : next.round ≡ m.round + k
-  pub vertices : next.vertices ≡ m.vertices
-  pub grammar_len : next.grammar_len ≡ m.grammar_len
-  pub edges_len : next.edges_len ≡ m.edges_len
-  pub labels : next.labels ≡ m.labels
+  pub same : AreOfSameTexts m next
   pub ends : ends_of next ≡ ends_of m
   pub well : IsWell next
   pub joined : (a b : ℕ) → joined_of next.marks a b ≡ cond (is_among i j a && is_among i j b) (m.round + k) (joined_of m.marks a b)
@@ -98,12 +96,13 @@ module _ (m next : Manifest) (fits : Fits m) (i j k : ℕ) (t : Turns m next i j
           generation = let lt = mod-lt (m.generation + 1) {m = 3} (omega arith) in omega (arith, t.generation, lt);
           round = omega (arith, fits.round, t.round_is);
           rounds = omega (arith, room, t.round_is);
-          vertices = omega (arith, fits.vertices, t.vertices);
-          grammar_len = omega (arith, fits.grammar_len, t.grammar_len);
-          edges_len = omega (arith, fits.edges_len, t.edges_len);
-          labels = rw t.labels fits.labels;
+          vertices = omega (arith, fits.vertices, t.same.vertices);
+          grammar_len = omega (arith, fits.grammar_len, t.same.grammar_len);
+          edges_len = omega (arith, fits.edges_len, t.same.edges_len);
+          first_len = t.same.first_len ∙ fits.first_len ∙ sym t.same.edges_len;
+          labels = rw t.same.labels fits.labels;
           few = t.well.few;
-          cover = cover_from_cut next.vertices 0 next.parts (rw (t.ends, t.vertices) (cut m fits));
+          cover = cover_from_cut next.same.vertices 0 next.parts (rw (t.ends, t.same.vertices) (cut m fits));
           files = t.well.files;
           files_once = t.well.once;
           map = t.well.map;

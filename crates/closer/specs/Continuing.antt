@@ -12,10 +12,12 @@ use Rattle.dest_map.specs.Table.{counts_of}
 use Rattle.pair_sched.specs.Marks.{joined_of, newest_of}
 use Rattle.manifest.specs.declared.types.Manifest.{Manifest}
 use Rattle.manifest.specs.Spelling.{Fits}
+use Rattle.manifest.specs.Same.{AreOfSameTexts}
 use Rattle.manifest_switch.specs.declared.slot.Slot.{Slot}
 use Rattle.manifest_switch.specs.declared.slot.Found.TheVariants.{At}
 use Rattle.manifest_switch.specs.Slots.{current_of}
-use Rattle.store_law.specs.Listed.{AreListed, part_file, state_in}
+use Rattle.store_law.specs.Listed.{AreListed, state_in}
+use Rattle.store_law.specs.Steps.{KeepsCopies, KeepsFiles}
 
 -- one step of closing on the pair that is picked: the first round goes over joins since the least mark of the loaded partitions, and the rounds go on until one adds nothing
 pub record IsWholePass (n : Normal) (before after : State) : Type 0 where
@@ -34,21 +36,15 @@ AfterSteps n (suc k) s after = (mid : State) × AfterSteps n k s mid × IsWholeP
 -- the manifest `next` in the contents d goes on from m in c by k steps: it is of the same texts, and whatever partitions m lists and tells of, it lists and tells of those after the steps
 pub record Continues (n : Normal) (k : ℕ) (c : Contents) (m : Manifest) (d : Contents) (next : Manifest) : Type 0 where
   pub fits : Fits next
-  pub vertices : next.vertices ≡ m.vertices
-  pub labels : next.labels ≡ m.labels
-  pub grammar_len : next.grammar_len ≡ m.grammar_len
-  pub edges_len : next.edges_len ≡ m.edges_len
-  pub grammar_copy : d 2 ≡ c 2
-  pub edges_copy : d 3 ≡ c 3
+  pub same : AreOfSameTexts m next
+  pub copies : KeepsCopies m c d
   pub steps : (parts : List (List Born)) → AreListed c m n.fresh parts → Tells (counts_of m.map) (joined_of m.marks) (newest_of m.marks) (state_in m parts)
       → (after : List (List Born)) × AreListed d next n.fresh after × Tells (counts_of next.map) (joined_of next.marks) (newest_of next.marks) (state_in next after) × AfterSteps n k (state_in m parts) (state_in next after)
 
 -- a crash leaves the manifest m current, with the copies and all files that it names
 pub record Retains (m : Manifest) (old new : Contents) : Type 0 where
   pub same : current_of new ≡ current_of old
-  pub grammar_copy : new 2 ≡ old 2
-  pub edges_copy : new 3 ≡ old 3
-  pub parts : (i : ℕ) → i < length m.parts → new (part_file m i) ≡ old (part_file m i)
+  pub files : KeepsFiles m old new
 
 -- or a manifest is current that goes on from m, as a read gave it
 pub record GoesOn (n : Normal) (seen : Contents) (m : Manifest) (c : Contents) : Type 0 where

@@ -14,6 +14,7 @@ use Rattle.pair_sched.specs.Marks.{joined_of, newest_of}
 use Rattle.manifest.specs.declared.types.Manifest.{Manifest}
 use Rattle.manifest.specs.declared.types.PartEntry.{PartEntry}
 use Rattle.manifest.specs.Spelling.{AreMarks, IsMap}
+use Rattle.manifest.specs.Same.{AreOfSameTexts}
 use Rattle.manifest_switch.specs.Slots.{next_generation}
 use Rattle.store_law.specs.Listed.{ends_of, part_file, part_of}
 use Rattle.row_table.specs.Loaded.{loaded_of}
@@ -66,10 +67,7 @@ pub record AreRun (n : Normal) (since round : ℕ) (p : Part) (q : Option Part) 
 pub record IsMarked (m : Manifest) (i j k : ℕ) (next : Manifest) : Type 0 where
   pub generation : next.generation ≡ next_generation m.generation
   pub round : next.round ≡ m.round + k
-  pub vertices : next.vertices ≡ m.vertices
-  pub grammar_len : next.grammar_len ≡ m.grammar_len
-  pub edges_len : next.edges_len ≡ m.edges_len
-  pub labels : next.labels ≡ m.labels
+  pub same : AreOfSameTexts m next
   pub parts : next.parts ≡ m.parts
   pub map_is : next.map ≡ m.map
   pub size : next.marks.0 ≡ m.marks.0
@@ -101,10 +99,7 @@ pub record IsWell (m : Manifest) : Type 0 where
 pub record Replaces (before : Manifest) (a file : ℕ) (row : List ℕ) (newest : ℕ) (after : Manifest) : Type 0 where
   pub generation : after.generation ≡ before.generation
   pub round_is : after.round ≡ before.round
-  pub vertices : after.vertices ≡ before.vertices
-  pub grammar_len : after.grammar_len ≡ before.grammar_len
-  pub edges_len : after.edges_len ≡ before.edges_len
-  pub labels : after.labels ≡ before.labels
+  pub same : AreOfSameTexts before after
   pub refiles : Refiles a file before.parts after.parts
   pub map_size : after.map.0 ≡ before.map.0
   pub map_rows : length after.map.1 ≡ before.map.0 * before.map.0
@@ -124,10 +119,7 @@ pub record Spares (m : Manifest) (old new : Contents) : Type 0 where
 pub record TakesOn (round a : ℕ) (edges : List Born) (before after : Manifest) : Type 0 where
   pub generation : after.generation ≡ before.generation
   pub round_is : after.round ≡ before.round
-  pub vertices : after.vertices ≡ before.vertices
-  pub grammar_len : after.grammar_len ≡ before.grammar_len
-  pub edges_len : after.edges_len ≡ before.edges_len
-  pub labels : after.labels ≡ before.labels
+  pub same : AreOfSameTexts before after
   pub ends : ends_of after ≡ ends_of before
   pub well : IsWell after
   pub joined : (x y : ℕ) → joined_of after.marks x y ≡ joined_of before.marks x y

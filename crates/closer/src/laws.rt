@@ -25,3 +25,13 @@ pub fn stops_leave_a_store()
 pub fn held_stores_have_the_rules_of_their_texts()
     ensures { (t : Texts) (s : OpenStore) (c : Contents) → IsOfTexts t c s.manifest → IsCopyRead s.manifest (c 2) s.rules → s.rules ≡ rules t }
 {}
+
+ghost use Rattle.std.specs.Prelude.{◌<◌, length};
+ghost use Rattle.disk_model.specs.declared.form_kind.FormKind.{FormKind as AKind};
+ghost use Rattle.store_law.specs.Listed.{part_file};
+ghost use Rattle.open_store.specs.Reading.{IsRefused};
+
+/// No partition of a store of two texts is refused.
+pub fn stores_are_not_refused()
+    ensures { (t : Texts) (s : OpenStore) (c : Contents) (parts : List (List ABorn)) → IsStoreOf t c s.manifest parts → s.rules ≡ rules t → (i place : ℕ) (kind : AKind) → i < length s.manifest.parts → IsRefused s i (c (part_file s.manifest i)) place kind → ⊥ }
+{}

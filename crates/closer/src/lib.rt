@@ -9,12 +9,9 @@ mod putting;
 mod stepping;
 mod to_end;
 
-pub use laws::{
+pub use laws::{stores_are_not_refused,
     held_stores_have_the_rules_of_their_texts, steps_keep_a_store, stops_leave_a_store,
 };
 pub use options::RunOptions;
 pub use stepping::{Stepped, step};
 pub use to_end::run_to_end;
-
-#[cfg(test)]
-mod tests;

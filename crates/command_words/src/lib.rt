@@ -9,8 +9,6 @@ mod kind;
 mod reading;
 mod run_numbers;
 mod run_options;
-#[cfg(test)]
-mod tests;
 
 pub use command::Command;
 pub use fault::WordsFault;

@@ -4,6 +4,3 @@
 mod map;
 
 pub use map::{DestMap, parent_of};
-
-#[cfg(test)]
-mod tests;

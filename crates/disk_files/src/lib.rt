@@ -21,6 +21,3 @@ pub fn rewrite<D: Disk>(disk: &mut D, file: u32, bytes: &[u8]) -> Result<(), Fai
     disk.cut(file, 0)?;
     disk.write_at(file, 0, bytes)
 }
-
-#[cfg(test)]
-mod tests;

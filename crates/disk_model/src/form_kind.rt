@@ -37,4 +37,6 @@ pub enum FormKind {
     Counts,
     /// Two open slots have one generation.
     Generations,
+    /// An edge is no input, no loop and no join of two that were there before it.
+    NoCause,
 }

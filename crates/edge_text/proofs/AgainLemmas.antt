@@ -16,6 +16,7 @@ use Rattle.io_edge.specs.declared.kinds.InputKind.TheVariants.{LineTooLong, TooL
 use Rattle.io_edge.specs.Lines.{segments, line, lines, without_end}
 use Rattle.io_edge.specs.FirstFault.{Fault, fault_or, line_fault, with_line, first_fault}
 use Rattle.edge_text.specs.EdgesText.{edge_fault, ReadsEdges}
+use Rattle.edge_text.specs.declared.feed.TheConstants.{LONGEST_TEXT}
 
 keep_others : (x : List ℕ) (ys : List (List ℕ)) → All (λ y. x ≢ y) ys → filter (λ y. not (same_name x y)) ys ≡ ys
 keep_others x [] all = refl
@@ -40,8 +41,8 @@ grown_same : (a b : List (List ℕ)) → Grown a b → length b ≡ length a →
 grown_same a b g same = g.is ∙ ap (λ l. a ++ l) (no_more g.more (omega (arith, ap length g.is, length-append a g.more, same))) ∙ append-nil a
 
 -- a text that brought no new name behind a table has its names
-pub table_stays : (labels : List (List ℕ)) (text : List ℕ) (edges : List Edge) (table : List (List ℕ)) → AllPairs (λ x y. x ≢ y) labels → ReadsEdges labels text edges table → length table ≡ length labels → table ≡ labels
-table_stays labels text edges table once r same =
+pub table_stays : (start : ℕ) (labels : List (List ℕ)) (text : List ℕ) (edges : List Edge) (table : List (List ℕ)) → AllPairs (λ x y. x ≢ y) labels → ReadsEdges start labels text edges table → length table ≡ length labels → table ≡ labels
+table_stays start labels text edges table once r same =
     let names = flat_map third (said (lines text)) in
     let is : table ≡ with_names labels names = r.table_is ∙ distinct-append labels names ∙ ap (λ l. with_names l names) (distinct-of_once labels once) in
     is ∙ grown_same labels (with_names labels names) (with_names-grown labels names) (omega (arith, ap length is, same))
@@ -119,27 +120,27 @@ fault_parts : (n : ℕ) (k : Option InputKind) (rest : Option Fault) → fault_o
 fault_parts n None rest h = (refl, h)
 fault_parts n (Some kind) rest h = absurd (cc)
 
-lines_again : (names table : List (List ℕ)) (n at : ℕ) (before : List (List (List ℕ))) (ss : List (List ℕ)) → length (distinct (table ++ flat_map third (before ++ said (map line ss)))) ≤ 1000 → first_fault 1099511627776 (edge_fault names) n at before ss ≡ None → first_fault 1099511627776 (edge_fault table) n at before ss ≡ None
+lines_again : (names table : List (List ℕ)) (n at : ℕ) (before : List (List (List ℕ))) (ss : List (List ℕ)) → length (distinct (table ++ flat_map third (before ++ said (map line ss)))) ≤ 1000 → first_fault LONGEST_TEXT (edge_fault names) n at before ss ≡ None → first_fault LONGEST_TEXT (edge_fault table) n at before ss ≡ None
 lines_again names table n at before [] few h = refl
 lines_again names table n at before (s ∷ ss) few h =
-    let parts = fault_parts n (line_fault 1099511627776 (edge_fault names) before (at + length s) s) (first_fault 1099511627776 (edge_fault names) (n + 1) (at + length s) (with_line before s) ss) h in
+    let parts = fault_parts n (line_fault LONGEST_TEXT (edge_fault names) before (at + length s) s) (first_fault LONGEST_TEXT (edge_fault names) (n + 1) (at + length s) (with_line before s) ss) h in
     let all : flat_map third (before ++ said (map line (s ∷ ss))) ≡ flat_map third (with_line before s) ++ flat_map third (said (map line ss)) = ap (flat_map third) (said_cons (map line ss) (line s) before) ∙ flat_map-append third (with_line before s) (said (map line ss)) in
     let size : length (distinct (table ++ (flat_map third (with_line before s) ++ flat_map third (said (map line ss))))) ≤ 1000 = omega (arith, few, ap (λ (l : List (List ℕ)). length (distinct (table ++ l))) all) in
     let here = fewer table (flat_map third (with_line before s)) (flat_map third (said (map line ss))) size in
     let rest_few : length (distinct (table ++ flat_map third (with_line before s ++ said (map line ss)))) ≤ 1000 = omega (arith, size, ap (λ (l : List (List ℕ)). length (distinct (table ++ l))) (flat_map-append third (with_line before s) (said (map line ss)))) in
     let ws = words (line s) in
-    let this = line_tests (nat_lt 4096 (length (without_end 10 s))) (nat_lt 1099511627776 (at + length s)) (is_skipped ws) (edge_fault names before ws) (edge_fault table before ws) parts.0
+    let this = line_tests (nat_lt 4096 (length (without_end 10 s))) (nat_lt LONGEST_TEXT (at + length s)) (is_skipped ws) (edge_fault names before ws) (edge_fault table before ws) parts.0
     (λ kept none. edge_again names table before ws none (subst (λ (t : Bool). length (distinct (table ++ flat_map third (cond t before (before ++ ws ∷ [])))) ≤ 1000) kept here)) in
-    ap (λ k. fault_or n k (first_fault 1099511627776 (edge_fault table) (n + 1) (at + length s) (with_line before s) ss)) this
+    ap (λ k. fault_or n k (first_fault LONGEST_TEXT (edge_fault table) (n + 1) (at + length s) (with_line before s) ss)) this
     ∙ lines_again names table (n + 1) (at + length s) (with_line before s) ss rest_few parts.1
 
 -- a text reads the same behind the names that it was found to have
-pub reads_again : (names : List (List ℕ)) (text : List ℕ) (edges : List Edge) (table : List (List ℕ)) → ReadsEdges names text edges table → ReadsEdges table text edges table
-reads_again names text edges table r =
+pub reads_again : (start : ℕ) (names : List (List ℕ)) (text : List ℕ) (edges : List Edge) (table : List (List ℕ)) → ReadsEdges start names text edges table → ReadsEdges start table text edges table
+reads_again start names text edges table r =
     let xs = flat_map third (said (lines text)) in
     let again : distinct (table ++ xs) ≡ table = ap (λ (t : List (List ℕ)). distinct (t ++ xs)) r.table_is ∙ distinct_again names xs ∙ sym r.table_is in
     record {
-      whole = lines_again names table 1 0 [] (segments text) (omega (arith, ap length again, r.short)) r.whole;
+      whole = lines_again names table 1 start [] (segments text) (omega (arith, ap length again, r.short)) r.whole;
       table_is = sym again;
       short = r.short;
       edges_are = r.edges_are;

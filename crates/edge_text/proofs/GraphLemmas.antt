@@ -51,8 +51,8 @@ few_vertices table (ws ∷ words) (e ∷ es) h =
     omega arith
 
 -- what was read of a text without a fault
-pub ReadsEdges-from_says : (names : List (List ℕ)) (file : List ℕ) (edges : List Edge) (table : List (List ℕ)) → SaysEdges names (said (lines file)) edges table × (edges_fault names file ≡ None) → ReadsEdges names file edges table
-ReadsEdges-from_says names file edges table h =
+pub ReadsEdges-from_says : (start : ℕ) (names : List (List ℕ)) (file : List ℕ) (edges : List Edge) (table : List (List ℕ)) → SaysEdges names (said (lines file)) edges table × (edges_fault start names file ≡ None) → ReadsEdges start names file edges table
+ReadsEdges-from_says start names file edges table h =
     let s = h.0 in
     let each = subst (λ (t : List (List ℕ)). AllZip (IsEdgeOf t) (said (lines file)) edges) s.table_is s.each in
     record {

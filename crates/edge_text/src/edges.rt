@@ -58,10 +58,10 @@ fn read_text<I: Inputs>(
     requires new { (reader.old.place ≡ 0) × (reader.old.is_open ≡ true) }
     requires some { 0 < length piece.old }
     requires small { length piece.old ≤ 65536 }
-    ensures edges { IfOk result (λ edges. (names : List (List ℕ)) → IsFed names [] reader.old []
+    ensures edges { IfOk result (λ edges. (names : List (List ℕ)) → IsFed 0 names [] reader.old []
         → ReadsFile names (I.told inputs.old name.now) edges reader.new.table) }
     ensures fault { IfErr result (λ e. (line : ℕ) (kind : AKind) (file : List ℕ) (names : List (List ℕ)) → e ≡ EdgesFault.Text line kind
-        → I.told inputs.old name.now ≡ Some file → IsFed names [] reader.old [] → edges_fault names file ≡ Some (record { line = line; kind = kind })) }
+        → I.told inputs.old name.now ≡ Some file → IsFed 0 names [] reader.old [] → edges_fault 0 names file ≡ Some (record { line = line; kind = kind })) }
     ensures failed { IfErr result (λ e. e ≡ EdgesFault.ReadFailed → Rose (I.faults inputs.old name.now) (I.faults inputs.new name.now)) }
     ensures kept { I.told inputs.new ≡ I.told inputs.old }
     ensures others { (other : List ℕ) → I.faults inputs.old other ≤ I.faults inputs.new other }
@@ -95,14 +95,14 @@ pub fn read_edges<I: Inputs>(
     ensures edges { IfOk result (λ edges. (names : List (List ℕ)) → table.old ≡ distinct names
         → ReadsFile names (I.told inputs.old name.now) edges table.new) }
     ensures fault { IfErr result (λ e. (line : ℕ) (kind : AKind) (file : List ℕ) (names : List (List ℕ)) → e ≡ EdgesFault.Text line kind
-        → I.told inputs.old name.now ≡ Some file → table.old ≡ distinct names → edges_fault names file ≡ Some (record { line = line; kind = kind })) }
+        → I.told inputs.old name.now ≡ Some file → table.old ≡ distinct names → edges_fault 0 names file ≡ Some (record { line = line; kind = kind })) }
     ensures failed { IfErr result (λ e. e ≡ EdgesFault.ReadFailed → Rose (I.faults inputs.old name.now) (I.faults inputs.new name.now)) }
     ensures kept { I.told inputs.new ≡ I.told inputs.old }
     ensures others { (other : List ℕ) → I.faults inputs.old other ≤ I.faults inputs.new other }
     ensures unread { OnErr result (table.new ≡ table.old) }
 {
     let mut piece = Vec::from_elem(alloc, 0, PIECE_LEN)?;
-    let mut reader = EdgeReader::new(alloc, table.copy()?)?;
+    let mut reader = EdgeReader::new(alloc, table.copy()?, 0)?;
     let edges = read_text(alloc, inputs, name, &mut reader, &mut piece)?;
     *table = reader.into_table();
     Ok(edges)

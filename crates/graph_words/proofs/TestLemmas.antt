@@ -7,6 +7,7 @@ use Rattle.std.proofs.lemmas.Bool.{false≢true}
 use Rattle.std.proofs.lemmas.Bool.Decides.{nat_tests}
 use Rattle.std.proofs.lemmas.List.Elements.{All-nil, All-cons, All-head, All-tail}
 use Rattle.graph_words.specs.Text.{IsDigit, IsLabel, IsVertexNumber, is_label_word, is_vertex_word}
+use Rattle.graph_words.specs.declared.text.TheConstants.{MOST_LABEL_BYTES}
 
 and_true : (a b : Bool) → a ≡ true → b ≡ true → (a && b) ≡ true
 and_true true b e f = f
@@ -65,16 +66,16 @@ vertex_no w none =
 
 pub label_yes : (w : List ℕ) → IsLabel w → is_label_word w ≡ true
 label_yes w l =
-    and_true _ _ (and_true _ _ (le_true 1 (length w) l.some) (le_true (length w) 64 l.short)) (all_true (λ b. nat_le 0x21 b && nat_le b 0x7E) (λ b. (0x21 ≤ b) × (b ≤ 0x7E)) (between_true 0x21 0x7E) w l.printed)
+    and_true _ _ (and_true _ _ (le_true 1 (length w) l.some) (le_true (length w) MOST_LABEL_BYTES l.short)) (all_true (λ b. nat_le 0x21 b && nat_le b 0x7E) (λ b. (0x21 ≤ b) × (b ≤ 0x7E)) (between_true 0x21 0x7E) w l.printed)
 
 -- what passes the test is a label
 pub label_from_test : (w : List ℕ) → is_label_word w ≡ true → IsLabel w
 label_from_test w passes =
-    let front = and_left (nat_le 1 (length w) && nat_le (length w) 64) (list_all (λ b. nat_le 0x21 b && nat_le b 0x7E) w) passes in
+    let front = and_left (nat_le 1 (length w) && nat_le (length w) MOST_LABEL_BYTES) (list_all (λ b. nat_le 0x21 b && nat_le b 0x7E) w) passes in
     record {
-      some = true_le 1 (length w) (and_left (nat_le 1 (length w)) (nat_le (length w) 64) front);
-      short = true_le (length w) 64 (and_right (nat_le 1 (length w)) (nat_le (length w) 64) front);
-      printed = true_all (λ b. nat_le 0x21 b && nat_le b 0x7E) (λ b. (0x21 ≤ b) × (b ≤ 0x7E)) (true_between 0x21 0x7E) w (and_right (nat_le 1 (length w) && nat_le (length w) 64) (list_all (λ b. nat_le 0x21 b && nat_le b 0x7E) w) passes);
+      some = true_le 1 (length w) (and_left (nat_le 1 (length w)) (nat_le (length w) MOST_LABEL_BYTES) front);
+      short = true_le (length w) MOST_LABEL_BYTES (and_right (nat_le 1 (length w)) (nat_le (length w) MOST_LABEL_BYTES) front);
+      printed = true_all (λ b. nat_le 0x21 b && nat_le b 0x7E) (λ b. (0x21 ≤ b) × (b ≤ 0x7E)) (true_between 0x21 0x7E) w (and_right (nat_le 1 (length w) && nat_le (length w) MOST_LABEL_BYTES) (list_all (λ b. nat_le 0x21 b && nat_le b 0x7E) w) passes);
     }
 
 -- words that pass the test are labels

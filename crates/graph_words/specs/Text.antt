@@ -2,6 +2,7 @@ use Rattle.std.specs.Prelude.{◌≡◌, ℕ, ◌≤◌, Bool, true, false, not,
 use Rattle.std.specs.List.{slice_split, flat_map, list_any, list_all, position_or_len}
 use Rattle.std.specs.Str.Parse.{digits_value}
 use lib.Pointwise.{pointwise}
+use Rattle.graph_words.specs.declared.text.TheConstants.{MOST_LABEL_BYTES}
 
 -- a space or a tab
 abbrev pub is_blank : ℕ → Bool
@@ -25,10 +26,10 @@ abbrev pub is_skipped : List (List ℕ) → Bool
 is_skipped [] = true
 is_skipped (w ∷ ws) = is_remark w
 
--- 1 to 64 printed bytes
+-- 1 to MOST_LABEL_BYTES printed bytes
 pub record IsLabel (name : List ℕ) : Type 0 where
   pub some : 1 ≤ length name
-  pub short : length name ≤ 64
+  pub short : length name ≤ MOST_LABEL_BYTES
   pub printed : All (λ b. (0x21 ≤ b) × (b ≤ 0x7E)) name
 
 -- '0' to '9'
@@ -88,9 +89,9 @@ abbrev pub with_names : List (List ℕ) → List (List ℕ) → List (List ℕ)
 with_names names [] = names
 with_names names (x ∷ xs) = with_names (with_name names x) xs
 
--- 1 to 64 printed bytes, as a test
+-- the same as a test
 abbrev pub is_label_word : List ℕ → Bool
-is_label_word name = nat_le 1 (length name) && nat_le (length name) 64 && list_all (λ b. nat_le 0x21 b && nat_le b 0x7E) name
+is_label_word name = nat_le 1 (length name) && nat_le (length name) MOST_LABEL_BYTES && list_all (λ b. nat_le 0x21 b && nat_le b 0x7E) name
 
 -- a number to 16,777,215 in decimal digits, as a test
 abbrev pub is_vertex_word : List ℕ → Bool

@@ -8,8 +8,5 @@ mod types;
 
 pub use laws::{closed_set_has_reach, derivation_splits, paths_append, reach_grows};
 pub use line_words::{is_skipped, next_word, words_of};
-pub use text::{distinct_grows, is_label};
+pub use text::{MOST_LABEL_BYTES, distinct_grows, is_label};
 pub use types::{Born, Edge, EdgeList, LabelId, PairRule, Rule, Vertex, Word};
-
-#[cfg(test)]
-mod tests;

@@ -2,12 +2,15 @@ ghost use Rattle.std.specs.Prelude.{◌≡◌, ◌↔◌, ℕ, List, ◌++◌, I
 ghost use Rattle.std.specs.List.{list_all};
 ghost use Rattle.graph_words.specs.Text.{IsLabel, distinct, with_names, is_label_word};
 
-/// Whether the bytes are a label's name: 1 to 64 bytes, each from 0x21 to 0x7E.
+/// How many bytes a label's name has at most.
+pub const MOST_LABEL_BYTES: usize = 64;
+
+/// Whether the bytes are a label's name: 1 to `MOST_LABEL_BYTES` bytes, each from 0x21 to 0x7E.
 pub fn is_label(name: &[u8]) -> bool
     ensures label { IsTrue result ↔ IsLabel name.now }
     ensures test { result ≡ is_label_word name.now }
 {
-    1 <= name.len() && name.len() <= 64 && is_printed(name)
+    1 <= name.len() && name.len() <= MOST_LABEL_BYTES && is_printed(name)
 }
 
 fn is_printed(name: &[u8]) -> bool

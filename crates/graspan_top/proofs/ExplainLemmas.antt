@@ -2,7 +2,7 @@
 use Rattle.std.proofs.Common.{◌≡◌, ◌⊎◌, inl, inr, ℕ, ◌≤◌, List, length, Option, Some, Ok, Err, refl, sym, ap, subst, ◌∙◌, arith}
 use Rattle.std.specs.Prelude.{IsTrue, Bool, Result, IfErr, IsErrAnd}
 use Rattle.io_edge.specs.Devices.{Rose}
-use Rattle.io_edge.specs.declared.kinds.InputFile.TheVariants.{Grammar, Edges, Source}
+use Rattle.io_edge.specs.declared.kinds.InputFile.TheVariants.{Grammar, Edges, Source, Proof, Questions}
 use Rattle.edge_text.specs.EdgesText.{edges_fault}
 use Rattle.grammar_norm.specs.GrammarText.{grammar_fault, grammar_names}
 use Rattle.disk_model.specs.Disk.{Contents, Rose as DiskRose}
@@ -40,6 +40,8 @@ module _ (x : Given) (edges grammar : List ℕ) where
   explains_later show after er gr dr wr er' gr' dr' wr' e g d w (InputFault Grammar line kind) h = h
   explains_later show after er gr dr wr er' gr' dr' wr' e g d w (InputFault Edges line kind) h = h
   explains_later show after er gr dr wr er' gr' dr' wr' e g d w (InputFault Source line kind) h = h
+  explains_later show after er gr dr wr er' gr' dr' wr' e g d w (InputFault Proof line kind) h = h
+  explains_later show after er gr dr wr er' gr' dr' wr' e g d w (InputFault Questions line kind) h = h
   explains_later show after er gr dr wr er' gr' dr' wr' e g d w (OtherInput file place) h = h
   explains_later show after er gr dr wr er' gr' dr' wr' e g d w ReadFault (inl h) = inl (g h)
   explains_later show after er gr dr wr er' gr' dr' wr' e g d w ReadFault (inr h) = inr (h.0, e h.1)
@@ -58,6 +60,8 @@ module _ (x : Given) (edges grammar : List ℕ) where
   grammar_explains show after er gr dr wr (InputFault Grammar line kind) h = h
   grammar_explains show after er gr dr wr (InputFault Edges line kind) h = absurd h
   grammar_explains show after er gr dr wr (InputFault Source line kind) h = h
+  grammar_explains show after er gr dr wr (InputFault Proof line kind) h = h
+  grammar_explains show after er gr dr wr (InputFault Questions line kind) h = h
   grammar_explains show after er gr dr wr (OtherInput file place) h = absurd h
   grammar_explains show after er gr dr wr ReadFault h = inl h
   grammar_explains show after er gr dr wr DiskFault h = absurd h
@@ -87,9 +91,11 @@ module _ (x : Given) (edges grammar : List ℕ) where
     import_explains show after wr greads greads' reads reads' calls calls' blank stores.ReadFault h = inr (good_file, h)
     import_explains show after wr greads greads' reads reads' calls calls' blank stores.DiskFault h = (good_file, h)
     import_explains show after wr greads greads' reads reads' calls calls' blank (stores.InputFault Edges line kind) h =
-        (blank, λ g told. (good_file g told, λ e is. subst (λ (t : List ℕ). edges_fault (grammar_names t) e ≡ Some (record { line = line; kind = kind })) (file.is_file g told) (h e is)))
+        (blank, λ g told. (good_file g told, λ e is. subst (λ (t : List ℕ). edges_fault 0 (grammar_names t) e ≡ Some (record { line = line; kind = kind })) (file.is_file g told) (h e is)))
     import_explains show after wr greads greads' reads reads' calls calls' blank (stores.InputFault Grammar line kind) h = absurd h
     import_explains show after wr greads greads' reads reads' calls calls' blank (stores.InputFault Source line kind) h = absurd h
+    import_explains show after wr greads greads' reads reads' calls calls' blank (stores.InputFault Proof line kind) h = absurd h
+    import_explains show after wr greads greads' reads reads' calls calls' blank (stores.InputFault Questions line kind) h = absurd h
     import_explains show after wr greads greads' reads reads' calls calls' blank (stores.OtherInput file place) h = absurd h
     import_explains show after wr greads greads' reads reads' calls calls' blank (stores.BadStore f p k) h = (good_file, λ tells. absurd (h.3 tells))
     import_explains show after wr greads greads' reads reads' calls calls' blank stores.NoMemory h = tt
@@ -112,6 +118,8 @@ module _ (x : Given) (edges grammar : List ℕ) where
       compare_explains show after er gr dr wr (stores.OtherInput Edges place) h = λ tells.
           (slot, m, current tells, ((λ g told. (good_file g told, h.0 g told tells ∙ same_copy_2 tells)), λ e told. subst (λ (c : List ℕ). DiffersFirst e c place) (same_copy_3 tells) (h.1 e told tells)))
       compare_explains show after er gr dr wr (stores.OtherInput Source place) h = absurd h
+      compare_explains show after er gr dr wr (stores.OtherInput Proof place) h = absurd h
+      compare_explains show after er gr dr wr (stores.OtherInput Questions place) h = absurd h
       compare_explains show after er gr dr wr (stores.BadStore f p k) h = absurd h
       compare_explains show after er gr dr wr stores.NoMemory h = tt
 

@@ -1,17 +1,19 @@
 -- The names of files and kinds in a printed fault.
 use Rattle.std.specs.Prelude.{ℕ, List, codes}
 use Rattle.io_edge.specs.declared.kinds.InputFile.{InputFile}
-use Rattle.io_edge.specs.declared.kinds.InputFile.TheVariants.{Grammar, Edges, Source}
+use Rattle.io_edge.specs.declared.kinds.InputFile.TheVariants.{Grammar, Edges, Source, Proof, Questions}
 use Rattle.io_edge.specs.declared.kinds.InputKind.{InputKind}
-use Rattle.io_edge.specs.declared.kinds.InputKind.TheVariants.{LineTooLong, TooLong, WrongCount, BadSource, BadDestination, BadLabel, RightTooLong, TooManyRules, TooManyLabels, BadByte, OpenComment, NameTooLong, Unexpected, TooDeep, Undeclared, Repeated, WrongArguments, NoValue, TooManyVertices}
+use Rattle.io_edge.specs.declared.kinds.InputKind.TheVariants.{LineTooLong, TooLong, WrongCount, BadSource, BadDestination, BadLabel, RightTooLong, TooManyRules, TooManyLabels, BadByte, OpenComment, NameTooLong, Unexpected, TooDeep, Undeclared, Repeated, WrongArguments, NoValue, TooManyVertices, BadNode, BadStep, NoNode, TooManyQuestions}
 use Rattle.disk_model.specs.declared.form_kind.FormKind.{FormKind}
-use Rattle.disk_model.specs.declared.form_kind.FormKind.TheVariants.{BadMagic, Short, Extra, BadNumber, RepeatedLabel, BadParts, BadFile, BadCount, BadMark, BadBounds, BadOrder, BadVertex, BadBirth, BadText, Counts, Generations}
+use Rattle.disk_model.specs.declared.form_kind.FormKind.TheVariants.{BadMagic, Short, Extra, BadNumber, RepeatedLabel, BadParts, BadFile, BadCount, BadMark, BadBounds, BadOrder, BadVertex, BadBirth, BadText, Counts, Generations, NoCause}
 use Rattle.disk_model.specs.declared.form_kind.FormKind.TheVariants as forms
 
 abbrev pub file_name : InputFile → List ℕ
 file_name Grammar = codes "grammar"
 file_name Edges = codes "edges"
 file_name Source = codes "source"
+file_name Proof = codes "proof"
+file_name Questions = codes "questions"
 
 abbrev pub kind_name : InputKind → List ℕ
 kind_name LineTooLong = codes "LineTooLong"
@@ -33,6 +35,10 @@ kind_name Repeated = codes "Repeated"
 kind_name WrongArguments = codes "WrongArguments"
 kind_name NoValue = codes "NoValue"
 kind_name TooManyVertices = codes "TooManyVertices"
+kind_name BadNode = codes "BadNode"
+kind_name BadStep = codes "BadStep"
+kind_name NoNode = codes "NoNode"
+kind_name TooManyQuestions = codes "TooManyQuestions"
 
 -- what breaks in a store
 abbrev pub form_name : FormKind → List ℕ
@@ -53,3 +59,4 @@ form_name BadBirth = codes "BadBirth"
 form_name BadText = codes "BadText"
 form_name Counts = codes "Counts"
 form_name Generations = codes "Generations"
+form_name NoCause = codes "NoCause"

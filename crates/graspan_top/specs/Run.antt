@@ -4,7 +4,7 @@ use Rattle.graph_words.specs.declared.types.LabelId.{LabelId}
 use Rattle.graph_words.specs.declared.types.Born.{Born}
 use Rattle.graph_words.specs.declared.types.Rule.{Rule}
 use Rattle.io_edge.specs.declared.kinds.InputFile.{InputFile}
-use Rattle.io_edge.specs.declared.kinds.InputFile.TheVariants.{Grammar, Edges, Source}
+use Rattle.io_edge.specs.declared.kinds.InputFile.TheVariants.{Grammar, Edges}
 use Rattle.edge_text.specs.EdgesText.{edges_fault}
 use Rattle.grammar_norm.specs.GrammarText.{grammar_fault, grammar_names}
 use Rattle.normal_law.specs.NormalForm.{normal_form}
@@ -117,7 +117,7 @@ StopsLeave images moment left_since told edges grammar old new = (g e : List ℕ
 abbrev pub DiffersIn : Given → List ℕ → List ℕ → Manifest → InputFile → ℕ → Type 0
 DiffersIn x edges grammar m Grammar place = WhereTold (x.told grammar) (λ g. IsGoodGrammar g × DiffersFirst g (copy_of m Grammar x.before) place)
 DiffersIn x edges grammar m Edges place = WhereTold (x.told grammar) (λ g. IsGoodGrammar g × (g ≡ copy_of m Grammar x.before)) × WhereTold (x.told edges) (λ e. DiffersFirst e (copy_of m Edges x.before) place)
-DiffersIn x edges grammar m Source place = ⊥
+DiffersIn x edges grammar m _ place = ⊥
 
 -- why a file of the store is blamed: opening refuses it, or it names no partition where one is loaded for the closing or the printing
 pub data Blames (x : Given) (edges grammar : List ℕ) (after : Contents) : ℕ → ℕ → FormKind → Type 0 where
@@ -137,7 +137,7 @@ pub record IsUnknown (c : Contents) (label : List ℕ) : Type 0 where
 abbrev pub RunExplains : Given → List ℕ → List ℕ → Option (List ℕ) → Contents → Type 0 → Type 0 → Type 0 → Type 0 → Status → Type 0
 RunExplains x edges grammar show after edges_rose grammar_rose disk_rose out_rose Done = Accepts x edges grammar
 RunExplains x edges grammar show after edges_rose grammar_rose disk_rose out_rose (InputFault Grammar line kind) = WhereTold (x.told grammar) (λ g. grammar_fault g ≡ Some (record { line = line; kind = kind }))
-RunExplains x edges grammar show after edges_rose grammar_rose disk_rose out_rose (InputFault Edges line kind) = (IsTrue x.tells → current_of x.before ≡ Ok Blank) × WhereTold (x.told grammar) (λ g. IsGoodGrammar g × WhereTold (x.told edges) (λ e. edges_fault (grammar_names g) e ≡ Some (record { line = line; kind = kind })))
+RunExplains x edges grammar show after edges_rose grammar_rose disk_rose out_rose (InputFault Edges line kind) = (IsTrue x.tells → current_of x.before ≡ Ok Blank) × WhereTold (x.told grammar) (λ g. IsGoodGrammar g × WhereTold (x.told edges) (λ e. edges_fault 0 (grammar_names g) e ≡ Some (record { line = line; kind = kind })))
 RunExplains x edges grammar show after edges_rose grammar_rose disk_rose out_rose (OtherInput file place) = IsTrue x.tells → (slot : Slot) × (m : Manifest) × (current_of x.before ≡ Ok (At slot m)) × DiffersIn x edges grammar m file place
 RunExplains x edges grammar show after edges_rose grammar_rose disk_rose out_rose ReadFault = grammar_rose ⊎ (WhereTold (x.told grammar) IsGoodGrammar × edges_rose)
 RunExplains x edges grammar show after edges_rose grammar_rose disk_rose out_rose DiskFault = WhereTold (x.told grammar) IsGoodGrammar × disk_rose

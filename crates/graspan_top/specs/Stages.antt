@@ -2,7 +2,7 @@
 use Rattle.std.specs.Prelude.{◌≡◌, ◌⊎◌, ◌++◌, ℕ, Bool, IsTrue, List, [], length, Contains, Option, Some, None, Ok}
 use Rattle.graph_words.specs.declared.types.LabelId.{LabelId}
 use Rattle.graph_words.specs.declared.types.Born.{Born}
-use Rattle.io_edge.specs.declared.kinds.InputFile.TheVariants.{Grammar, Edges, Source}
+use Rattle.io_edge.specs.declared.kinds.InputFile.TheVariants.{Grammar, Edges}
 use Rattle.grammar_norm.specs.GrammarText.{grammar_fault}
 use Rattle.disk_model.specs.Disk.{Contents}
 use Rattle.disk_model.specs.Crash.{LeavesJust}
@@ -49,7 +49,7 @@ CompareExplains grammar edges tells seen m grammar_rose edges_rose disk_rose sto
 CompareExplains grammar edges tells seen m grammar_rose edges_rose disk_rose stores.DiskFault = disk_rose
 CompareExplains grammar edges tells seen m grammar_rose edges_rose disk_rose (stores.OtherInput Grammar place) = DiffersFrom grammar tells (copy_of m Grammar seen) place
 CompareExplains grammar edges tells seen m grammar_rose edges_rose disk_rose (stores.OtherInput Edges place) = IsCopied grammar tells (copy_of m Grammar seen) × DiffersFrom edges tells (copy_of m Edges seen) place
-CompareExplains grammar edges tells seen m grammar_rose edges_rose disk_rose (stores.OtherInput Source place) = ⊥
+CompareExplains grammar edges tells seen m grammar_rose edges_rose disk_rose (stores.OtherInput _ place) = ⊥
 CompareExplains grammar edges tells seen m grammar_rose edges_rose disk_rose stores.NoMemory = Unit {0}
 CompareExplains grammar edges tells seen m grammar_rose edges_rose disk_rose (stores.InputFault file line kind) = ⊥
 CompareExplains grammar edges tells seen m grammar_rose edges_rose disk_rose (stores.BadStore file place kind) = ⊥

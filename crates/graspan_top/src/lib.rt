@@ -12,6 +12,3 @@ mod status;
 
 pub use command::graspan;
 pub use status::Status;
-
-#[cfg(test)]
-mod tests;

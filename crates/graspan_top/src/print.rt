@@ -29,19 +29,21 @@ fn append(line: &mut Line, bytes: &[u8])
 /// The name of a file in a printed fault.
 fn file_name(file: InputFile) -> &'static [u8]
     ensures name { result.now ≡ file_name_of file }
-    ensures short { length result.now ≤ 7 }
+    ensures short { length result.now ≤ 9 }
 {
     match file {
         InputFile::Grammar => b"grammar",
         InputFile::Edges => b"edges",
         InputFile::Source => b"source",
+        InputFile::Proof => b"proof",
+        InputFile::Questions => b"questions",
     }
 }
 
 /// The name of a kind in a printed fault.
 fn kind_name(kind: InputKind) -> &'static [u8]
     ensures name { result.now ≡ kind_name_of kind }
-    ensures short { length result.now ≤ 15 }
+    ensures short { length result.now ≤ 16 }
 {
     match kind {
         InputKind::LineTooLong => b"LineTooLong",
@@ -63,13 +65,17 @@ fn kind_name(kind: InputKind) -> &'static [u8]
         InputKind::WrongArguments => b"WrongArguments",
         InputKind::NoValue => b"NoValue",
         InputKind::TooManyVertices => b"TooManyVertices",
+        InputKind::BadNode => b"BadNode",
+        InputKind::BadStep => b"BadStep",
+        InputKind::NoNode => b"NoNode",
+        InputKind::TooManyQuestions => b"TooManyQuestions",
     }
 }
 
 /// The name of what breaks in a store.
 fn form_name(kind: FormKind) -> &'static [u8]
     ensures name { result.now ≡ form_name_of kind }
-    ensures short { length result.now ≤ 15 }
+    ensures short { length result.now ≤ 16 }
 {
     match kind {
         FormKind::BadMagic => b"BadMagic",
@@ -89,6 +95,7 @@ fn form_name(kind: FormKind) -> &'static [u8]
         FormKind::BadText => b"BadText",
         FormKind::Counts => b"Counts",
         FormKind::Generations => b"Generations",
+        FormKind::NoCause => b"NoCause",
     }
 }
 

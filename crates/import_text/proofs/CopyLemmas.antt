@@ -83,7 +83,7 @@ copying_on P tells file first now after old mid new text front place n buf here 
 
 -- and the end
 pub copying_ends : (names : List (List ℕ)) (told : Option (List ℕ)) (tells : Type 0) (file : ℕ) (first now after : Tallied) (old new : Contents) (text : List ℕ) (front : List Edge) (len : ℕ) → now.reader.place ≡ len → IsCopying (λ f. told ≡ Some f) tells file first now old new text front
-    → ((f : List ℕ) → told ≡ Some f → text ≡ f) → TakesEnd now after → IsFed names [] first.reader [] → CopiesBehind names told tells file old new len after.degrees after.reader.table
+    → ((f : List ℕ) → told ≡ Some f → text ≡ f) → TakesEnd now after → IsFed 0 names [] first.reader [] → CopiesBehind names told tells file old new len after.degrees after.reader.table
 copying_ends names told tells file first now after old new text front len here c whole t fed =
     record {
       text = text;

@@ -43,12 +43,12 @@ module _ (n : Normal) (labels : List (List ℕ)) (len vertices lo hi : ℕ) (tel
   -- what has all of these is one
   pub gathers_copy : AllPairs (λ x y. x ≢ y) labels → place ≡ len → length after.reader.table ≡ length labels → after.vertices ≤ vertices → GathersCopy n labels len vertices lo hi tells file after.given
   gathers_copy once here names few =
-      let table = table_stays labels f.text f.found after.reader.table once f.reads names in
+      let table = table_stays 0 labels f.text f.found after.reader.table once f.reads names in
       let found : f.found ≡ edges_of labels f.text = f.reads.edges_are ∙ ap (λ (t : List (List ℕ)). edges_of t f.text) table in
       record {
         text = f.text;
         good = record {
-          reads = subst (λ (es : List Edge). ReadsEdges labels f.text es labels) found (subst (λ (t : List (List ℕ)). ReadsEdges labels f.text f.found t) table f.reads);
+          reads = subst (λ (es : List Edge). ReadsEdges 0 labels f.text es labels) found (subst (λ (t : List (List ℕ)). ReadsEdges 0 labels f.text f.found t) table f.reads);
           len_is = f.len_is ∙ here;
           few = omega (arith, count_is, ap vertex_count_of found, few);
         };

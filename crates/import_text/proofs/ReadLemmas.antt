@@ -91,7 +91,7 @@ gathering_on n P first now after text found place k buf here gives few c t =
 
 -- and the end
 pub gathering_ends : (n : Normal) (names : List (List ℕ)) (tells : Type 0) (file : List ℕ) (first now after : Gathered) (text : List ℕ) (found : List Edge) (len : ℕ) → now.reader.place ≡ len → IsGathering n (λ f. tells × (f ≡ file)) first now text found
-    → ((f : List ℕ) → tells × (f ≡ file) → text ≡ f) → GathersEnd n now after → IsFed names [] first.reader [] → GathersFile n names tells file len first after
+    → ((f : List ℕ) → tells × (f ≡ file) → text ≡ f) → GathersEnd n now after → IsFed 0 names [] first.reader [] → GathersFile n names tells file len first after
 gathering_ends n names tells file first now after text found len here c whole t fed =
     record {
       text = text;

@@ -8,6 +8,7 @@ use Rattle.edge_text.specs.Feeding.{EdgeFeed, IsFed, AddsEdges, IsNumbered}
 use Rattle.import_text.specs.Degrees.{Counted}
 use Rattle.import_text.specs.Tally.{Tallied, TakesPiece, TakesEnd}
 use Rattle.import_text.proofs.DegreeLemmas.{few_numbered}
+use Rattle.edge_text.specs.declared.feed.TheConstants.{LONGEST_TEXT}
 
 -- edges behind none are those that were added
 added_are : (most : ℕ) (none edges : List Edge) (table table' : List (List ℕ)) → none ≡ [] → (a : AddsEdges most none table edges table') → edges ≡ a.added
@@ -29,12 +30,12 @@ small_counts : (n : ℕ) (edges : List Edge) (old new : List ℕ) → All (IsNum
 small_counts n edges old new all c few = omega (arith, c.longer, few_numbered n edges all, few)
 
 -- what is read stays read where the edges were taken away
-pub fed_on : (names : List (List ℕ)) (text : List ℕ) (r : EdgeFeed) (front none : List Edge) → none ≡ [] → IsFed names text r front → IsFed names text r (front ++ none)
-fed_on names text r front none empty f = subst (λ (es : List Edge). IsFed names text r es) (sym (ap (λ es. front ++ es) empty ∙ append-nil front)) f
+pub fed_on : (names : List (List ℕ)) (text : List ℕ) (r : EdgeFeed) (front none : List Edge) → none ≡ [] → IsFed 0 names text r front → IsFed 0 names text r (front ++ none)
+fed_on names text r front none empty f = subst (λ (es : List Edge). IsFed 0 names text r es) (sym (ap (λ es. front ++ es) empty ∙ append-nil front)) f
 
 pub takes_piece : (piece : List ℕ) (before after : Tallied) (none edges : List Edge) → none ≡ [] → AddsEdges (length piece) none before.reader.table edges after.reader.table → Counted edges before.degrees after.degrees
-    → after.reader.is_open ≡ true → after.reader.place ≡ before.reader.place + length piece → (before.reader.place ≤ 1099511631872 → after.reader.place ≤ 1099511631872)
-    → ((names : List (List ℕ)) (text : List ℕ) (front : List Edge) → IsFed names text before.reader (front ++ none) → IsFed names (text ++ piece) after.reader (front ++ edges)) → TakesPiece piece before after
+    → after.reader.is_open ≡ true → after.reader.place ≡ before.reader.place + length piece → (before.reader.place ≤ LONGEST_TEXT + 4097 → after.reader.place ≤ LONGEST_TEXT + 4097)
+    → ((names : List (List ℕ)) (text : List ℕ) (front : List Edge) → IsFed 0 names text before.reader (front ++ none) → IsFed 0 names (text ++ piece) after.reader (front ++ edges)) → TakesPiece piece before after
 takes_piece piece before after none edges empty adds counted is_open place short fed =
     record {
       added = edges;
@@ -48,7 +49,7 @@ takes_piece piece before after none edges empty adds counted is_open place short
     }
 
 pub takes_end : (before after : Tallied) (none edges : List Edge) → none ≡ [] → AddsEdges 1 none before.reader.table edges after.reader.table → Counted edges before.degrees after.degrees
-    → ((names : List (List ℕ)) (text : List ℕ) (front : List Edge) → IsFed names text before.reader (front ++ none) → ReadsEdges names text (front ++ edges) after.reader.table) → TakesEnd before after
+    → ((names : List (List ℕ)) (text : List ℕ) (front : List Edge) → IsFed 0 names text before.reader (front ++ none) → ReadsEdges 0 names text (front ++ edges) after.reader.table) → TakesEnd before after
 takes_end before after none edges empty adds counted reads =
     record {
       added = edges;

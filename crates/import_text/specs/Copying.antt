@@ -23,7 +23,7 @@ copying_fault edges.NoMemory = faults.NoMemory
 pub record CopiesBehind (names : List (List ℕ)) (told : Option (List ℕ)) (tells : Type 0) (file : ℕ) (old new : Contents) (len : ℕ) (degrees : List ℕ) (labels : List (List ℕ)) : Type 0 where
   pub text : List ℕ
   pub edges : List Edge
-  pub reads : ReadsEdges names text edges labels
+  pub reads : ReadsEdges 0 names text edges labels
   pub is_file : (f : List ℕ) → told ≡ Some f → text ≡ f
   pub stored : tells → Sets file text old new
   pub len_is : len ≡ length text

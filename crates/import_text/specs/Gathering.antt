@@ -5,6 +5,7 @@ use Rattle.normal_law.specs.Closure.{Normal}
 use Rattle.edge_text.specs.EdgesText.{ReadsEdges, vertex_count_of}
 use Rattle.edge_text.specs.Feeding.{EdgeFeed, IsFed}
 use Rattle.import_text.specs.Given.{AddsJust, IsAboveIn}
+use Rattle.edge_text.specs.declared.feed.TheConstants.{LONGEST_TEXT}
 
 -- the reader, the interval, the given edges so far, and one more than the greatest vertex so far
 pub record Gathered : Type 0 where
@@ -27,12 +28,12 @@ pub record GathersPiece (n : Normal) (piece : List ℕ) (old new : Gathered) : T
   pub gathers : Gathers n found old new
   pub is_open : new.reader.is_open ≡ true
   pub place : new.reader.place ≡ old.reader.place + length piece
-  pub short : old.reader.place ≤ 1099511631872 → new.reader.place ≤ 1099511631872
+  pub short : old.reader.place ≤ LONGEST_TEXT + 4097 → new.reader.place ≤ LONGEST_TEXT + 4097
   pub names : length new.reader.table ≤ 1000
-  pub fed : (names : List (List ℕ)) (text : List ℕ) (front : List Edge) → IsFed names text old.reader front → IsFed names (text ++ piece) new.reader (front ++ found)
+  pub fed : (names : List (List ℕ)) (text : List ℕ) (front : List Edge) → IsFed 0 names text old.reader front → IsFed 0 names (text ++ piece) new.reader (front ++ found)
 
 -- the end was read, and what a last line gives was added
 pub record GathersEnd (n : Normal) (old new : Gathered) : Type 0 where
   pub found : List Edge
   pub gathers : Gathers n found old new
-  pub reads : (names : List (List ℕ)) (text : List ℕ) (front : List Edge) → IsFed names text old.reader front → ReadsEdges names text (front ++ found) new.reader.table
+  pub reads : (names : List (List ℕ)) (text : List ℕ) (front : List Edge) → IsFed 0 names text old.reader front → ReadsEdges 0 names text (front ++ found) new.reader.table

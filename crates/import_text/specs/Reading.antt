@@ -24,14 +24,14 @@ reading_fault edges.NoMemory = faults.NoMemory
 pub record GathersFile (n : Normal) (names : List (List ℕ)) (tells : Type 0) (file : List ℕ) (len : ℕ) (old new : Gathered) : Type 0 where
   pub text : List ℕ
   pub found : List Edge
-  pub reads : ReadsEdges names text found new.reader.table
+  pub reads : ReadsEdges 0 names text found new.reader.table
   pub is_file : tells → text ≡ file
   pub len_is : length text ≡ len
   pub gathers : Gathers n found old new
 
 -- a text of this length without a fault, whose labels all have numbers and whose vertices are below a number
 pub record IsGoodCopy (labels : List (List ℕ)) (len vertices : ℕ) (text : List ℕ) : Type 0 where
-  pub reads : ReadsEdges labels text (edges_of labels text) labels
+  pub reads : ReadsEdges 0 labels text (edges_of labels text) labels
   pub len_is : length text ≡ len
   pub few : vertex_count_of (edges_of labels text) ≤ vertices
 

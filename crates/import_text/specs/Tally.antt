@@ -4,6 +4,7 @@ use Rattle.graph_words.specs.declared.types.Edge.{Edge}
 use Rattle.edge_text.specs.EdgesText.{ReadsEdges}
 use Rattle.edge_text.specs.Feeding.{EdgeFeed, IsFed}
 use Rattle.import_text.specs.Degrees.{Counted}
+use Rattle.edge_text.specs.declared.feed.TheConstants.{LONGEST_TEXT}
 
 -- the reader, and how many edges begin at each vertex
 pub record Tallied : Type 0 where
@@ -17,9 +18,9 @@ pub record TakesPiece (piece : List ℕ) (old new : Tallied) : Type 0 where
   pub counted : Counted added old.degrees new.degrees
   pub is_open : new.reader.is_open ≡ true
   pub place : new.reader.place ≡ old.reader.place + length piece
-  pub short : old.reader.place ≤ 1099511631872 → new.reader.place ≤ 1099511631872
+  pub short : old.reader.place ≤ LONGEST_TEXT + 4097 → new.reader.place ≤ LONGEST_TEXT + 4097
   pub small : length old.degrees ≤ 16777216 → length new.degrees ≤ 16777216
-  pub fed : (names : List (List ℕ)) (text : List ℕ) (front : List Edge) → IsFed names text old.reader front → IsFed names (text ++ piece) new.reader (front ++ added)
+  pub fed : (names : List (List ℕ)) (text : List ℕ) (front : List Edge) → IsFed 0 names text old.reader front → IsFed 0 names (text ++ piece) new.reader (front ++ added)
 
 -- the end was read, and the edge of a last line is counted
 pub record TakesEnd (old new : Tallied) : Type 0 where
@@ -27,4 +28,4 @@ pub record TakesEnd (old new : Tallied) : Type 0 where
   pub few : length added ≤ 1
   pub counted : Counted added old.degrees new.degrees
   pub small : length old.degrees ≤ 16777216 → length new.degrees ≤ 16777216
-  pub reads : (names : List (List ℕ)) (text : List ℕ) (front : List Edge) → IsFed names text old.reader front → ReadsEdges names text (front ++ added) new.reader.table
+  pub reads : (names : List (List ℕ)) (text : List ℕ) (front : List Edge) → IsFed 0 names text old.reader front → ReadsEdges 0 names text (front ++ added) new.reader.table

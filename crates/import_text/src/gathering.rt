@@ -54,10 +54,10 @@ impl Gathering {
         requires { length table ≤ 1000 }
         ensures start { IfOk result (λ g. (g.reader.place ≡ 0) × (g.reader.is_open ≡ true) × (g.reader.table ≡ table)) }
         ensures none { IfOk result (λ g. (g.lo ≡ lo) × (g.hi ≡ hi) × (g.given ≡ []) × (g.vertices ≡ 0)) }
-        ensures names { IfOk result (λ g. (names : List (List ℕ)) → table ≡ distinct names → IsFed names [] g.reader []) }
+        ensures names { IfOk result (λ g. (names : List (List ℕ)) → table ≡ distinct names → IsFed 0 names [] g.reader []) }
     {
         Ok(Gathering {
-            reader: EdgeReader::new(alloc, table)?,
+            reader: EdgeReader::new(alloc, table, 0)?,
             lo,
             hi,
             found: Vec::new(alloc),
@@ -79,7 +79,7 @@ impl Gathering {
         ensures taken { OnOk result (GathersPiece (normal_form normal.now) piece.now self.old self.new) }
         ensures text { IfErr result (λ e. e ≢ EdgesFault.ReadFailed) }
         ensures fault { IfErr result (λ e. (line : ℕ) (kind : AKind) → e ≡ EdgesFault.Text line kind → (names : List (List ℕ)) (text : List ℕ) (front : List AnEdge)
-            → IsFed names text self.old.reader front → (later : List ℕ) → edges_fault names ((text ++ piece.now) ++ later) ≡ Some (record { line = line; kind = kind })) }
+            → IsFed 0 names text self.old.reader front → (later : List ℕ) → edges_fault 0 names ((text ++ piece.now) ++ later) ≡ Some (record { line = line; kind = kind })) }
     {
         self.found.clear();
         self.reader.feed(alloc, piece, &mut self.found)?;
@@ -100,7 +100,7 @@ impl Gathering {
         ensures taken { OnOk result (GathersEnd (normal_form normal.now) self.old self.new) }
         ensures text { IfErr result (λ e. e ≢ EdgesFault.ReadFailed) }
         ensures fault { IfErr result (λ e. (line : ℕ) (kind : AKind) → e ≡ EdgesFault.Text line kind → (names : List (List ℕ)) (text : List ℕ) (front : List AnEdge)
-            → IsFed names text self.old.reader front → edges_fault names text ≡ Some (record { line = line; kind = kind })) }
+            → IsFed 0 names text self.old.reader front → edges_fault 0 names text ≡ Some (record { line = line; kind = kind })) }
     {
         self.found.clear();
         self.reader.finish(alloc, &mut self.found)?;

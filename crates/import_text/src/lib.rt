@@ -15,6 +15,3 @@ pub use copying::{Copied, copy_edges};
 pub use fault::TextFault;
 pub use laws::copies_are_good;
 pub use reading::given_edges;
-
-#[cfg(test)]
-mod tests;

@@ -45,10 +45,10 @@ fn gather_pieces<D: Disk>(
     requires names { length gathering.old.reader.table ≤ 1000 }
     requires some { 0 < length piece.old }
     requires small { length piece.old ≤ 65536 }
-    ensures gathered { IfOk result (λ len. (names : List (List ℕ)) → IsFed names [] gathering.old.reader []
+    ensures gathered { IfOk result (λ len. (names : List (List ℕ)) → IsFed 0 names [] gathering.old.reader []
         → GathersFile (normal_form normal.now) names (IsTrue D.tells) (D.seen disk.old file) len gathering.old gathering.new) }
-    ensures bad { IfErr result (λ e. e ≡ TextFault.BadCopy → IsTrue D.tells → (names : List (List ℕ)) → IsFed names [] gathering.old.reader []
-        → edges_fault names (D.seen disk.old file) ≡ None → ⊥) }
+    ensures bad { IfErr result (λ e. e ≡ TextFault.BadCopy → IsTrue D.tells → (names : List (List ℕ)) → IsFed 0 names [] gathering.old.reader []
+        → edges_fault 0 names (D.seen disk.old file) ≡ None → ⊥) }
     ensures cause { IfErr result (HasCauseOn (D.faults disk.old) (D.faults disk.new)) }
     ensures later { D.faults disk.old ≤ D.faults disk.new }
     ensures looks { OnlyLooks D.seen D.may_leave D.moment D.left_since disk.old disk.new }

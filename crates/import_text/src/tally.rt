@@ -37,10 +37,10 @@ impl Tally {
     pub(crate) fn new(alloc: Global, table: LabelTable) -> Result<Tally, AllocError>
         requires { length table ≤ 1000 }
         ensures start { IfOk result (λ t. (t.reader.place ≡ 0) × (t.reader.is_open ≡ true) × (t.degrees ≡ [])) }
-        ensures names { IfOk result (λ t. (names : List (List ℕ)) → table ≡ distinct names → IsFed names [] t.reader []) }
+        ensures names { IfOk result (λ t. (names : List (List ℕ)) → table ≡ distinct names → IsFed 0 names [] t.reader []) }
     {
         Ok(Tally {
-            reader: EdgeReader::new(alloc, table)?,
+            reader: EdgeReader::new(alloc, table, 0)?,
             degrees: Degrees::new(alloc),
             edges: Vec::new(alloc),
         })
@@ -53,7 +53,7 @@ impl Tally {
         ensures taken { OnOk result (TakesPiece piece.now self.old self.new) }
         ensures text { IfErr result (λ e. e ≢ EdgesFault.ReadFailed) }
         ensures fault { IfErr result (λ e. (line : ℕ) (kind : AKind) → e ≡ EdgesFault.Text line kind → (names : List (List ℕ)) (text : List ℕ) (front : List AnEdge)
-            → IsFed names text self.old.reader front → (later : List ℕ) → edges_fault names ((text ++ piece.now) ++ later) ≡ Some (record { line = line; kind = kind })) }
+            → IsFed 0 names text self.old.reader front → (later : List ℕ) → edges_fault 0 names ((text ++ piece.now) ++ later) ≡ Some (record { line = line; kind = kind })) }
     {
         self.edges.clear();
         self.reader.feed(alloc, piece, &mut self.edges)?;
@@ -68,7 +68,7 @@ impl Tally {
         ensures taken { OnOk result (TakesEnd self.old self.new) }
         ensures text { IfErr result (λ e. e ≢ EdgesFault.ReadFailed) }
         ensures fault { IfErr result (λ e. (line : ℕ) (kind : AKind) → e ≡ EdgesFault.Text line kind → (names : List (List ℕ)) (text : List ℕ) (front : List AnEdge)
-            → IsFed names text self.old.reader front → edges_fault names text ≡ Some (record { line = line; kind = kind })) }
+            → IsFed 0 names text self.old.reader front → edges_fault 0 names text ≡ Some (record { line = line; kind = kind })) }
     {
         self.edges.clear();
         self.reader.finish(alloc, &mut self.edges)?;

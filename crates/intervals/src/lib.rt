@@ -8,6 +8,3 @@ mod laws;
 pub use degrees::one_cut_by_degrees;
 pub use intervals::Intervals;
 pub use laws::{each_vertex_in_one_interval, split_numbers_the_rest_anew};
-
-#[cfg(test)]
-mod tests;

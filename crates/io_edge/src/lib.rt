@@ -13,8 +13,6 @@ mod pieces;
 mod print;
 mod step;
 mod sure_inputs;
-#[cfg(test)]
-mod tests;
 mod whole;
 mod word_list;
 mod write_sink;

@@ -10,10 +10,11 @@ use Rattle.disk_model.specs.declared.form_kind.FormKind.{FormKind}
 use Rattle.disk_model.specs.declared.form_kind.FormKind.TheVariants.{BadNumber, BadParts, BadCount, BadMark}
 use Rattle.manifest.specs.declared.types.Broken.{Broken}
 use Rattle.manifest.specs.declared.types.Head.{Head}
+use Rattle.manifest.specs.declared.types.Version.TheVariants.{First}
 use Rattle.manifest.specs.declared.types.PartEntry.{PartEntry}
 use Rattle.manifest.specs.declared.types.Manifest.{Manifest}
 use Rattle.manifest.specs.declared.types.ManifestFault.{ManifestFault}
-use Rattle.manifest.specs.Rules.{at_most, is_label_count, is_part_count, is_end, widths, count_limits, is_reached}
+use Rattle.manifest.specs.Rules.{newest_version, at_most, is_label_count, is_part_count, is_end, widths, count_limits, is_reached}
 use Rattle.manifest.specs.Reading.{◌>>=◌, field_at, head_at, labels_at, parts_at, cells_at, front_at, table_at, manifest_of, body_at}
 use Rattle.manifest.specs.Spelling.{Spells, head_of, newest_in, head_bytes, label_bytes, parts_bytes, spelling}
 use Rattle.manifest.proofs.Kept.{Kept, HeadFits, LabelsFit, CellsFit, PartsFit}
@@ -22,7 +23,7 @@ use Rattle.manifest.proofs.Tables.{length-limits}
 use Rattle.manifest.proofs.ListLaws.{ReadsLabels, ReadsCells, labels_take, labels_again, parts_take, parts_again, cells_take, cells_again, parts_paired}
 
 abbrev pub front_bytes : Head × List (List ℕ) → List ℕ
-front_bytes f = head_bytes f.0 ++ little_bytes 2 (length f.1) ++ flat_map label_bytes f.1
+front_bytes f = head_bytes newest_version f.0 ++ little_bytes 2 (length f.1) ++ flat_map label_bytes f.1
 
 abbrev pub table_bytes : List PartEntry × List ℕ → List ℕ
 table_bytes parts = little_bytes 2 (length parts.0) ++ parts_bytes parts.0 parts.1
@@ -35,16 +36,16 @@ pub record FrontFits (f : Head × List (List ℕ)) : Type 0 where
 front_takes : (bytes : List ℕ) (x : (Head × List (List ℕ)) × List ℕ) → IsBytes bytes → front_at bytes ≡ Ok x → Takes bytes (front_bytes x.0) x.1 × FrontFits x.0
 unfolding front_at
 front_takes bytes x fits e =
-    let a = step_ok (head_at bytes) (λ h. field_at 2 is_label_count BadNumber h.1 >>= λ n. labels_at n.0 [] n.1 >>= λ labels. Ok ((h.0, labels.0), labels.1)) x e in
+    let a = step_ok (head_at newest_version bytes) (λ h. field_at 2 is_label_count BadNumber h.1 >>= λ n. labels_at n.0 [] n.1 >>= λ labels. Ok ((h.0, labels.0), labels.1)) x e in
     let b = step_ok (field_at 2 is_label_count BadNumber a.x.1) (λ n. labels_at n.0 [] n.1 >>= λ labels. Ok ((a.x.0, labels.0), labels.1)) x a.leads in
     let c = step_ok (labels_at b.x.0 [] b.x.1) (λ labels. Ok ((a.x.0, labels.0), labels.1)) x b.leads in
-    let h = head_takes bytes a.x fits a.is in
+    let h = head_takes newest_version bytes a.x fits a.is in
     let n = field_takes 2 wide2 is_label_count BadNumber a.x.1 b.x h.0.rest_fits b.is in
     let l = labels_take b.x.0 [] b.x.1 c.x n.takes.rest_fits c.is in
     front_made bytes a.x b.x c.x x h n l (ok_is ((a.x.0, c.x.0), c.x.1) x c.leads)
   where
     front_made : (bytes : List ℕ) (h : Head × List ℕ) (n : ℕ × List ℕ) (labels : List (List ℕ) × List ℕ) (x : (Head × List (List ℕ)) × List ℕ)
-        → Takes bytes (head_bytes h.0) h.1 × HeadFits h.0
+        → Takes bytes (head_bytes newest_version h.0) h.1 × HeadFits h.0
         → ReadsField 2 is_label_count h.1 n.0 n.1
         → ReadsLabels n.0 [] n.1 labels.0 labels.1
         → ((h.0, labels.0), labels.1) ≡ x
@@ -53,8 +54,8 @@ front_takes bytes x fits e =
         let ln : length labels.0 ≡ n.0 = ap length tl.is ∙ tl.len in
         let t1 : Takes h.1 (little_bytes 2 (length labels.0)) n.1 = subst (λ (m : ℕ). Takes h.1 (little_bytes 2 m) n.1) (sym ln) tn.takes in
         let t2 : Takes n.1 (flat_map label_bytes labels.0) labels.1 = subst (λ (m : List (List ℕ)). Takes n.1 (flat_map label_bytes m) labels.1) (sym tl.is) tl.takes in
-        let q1 = Takes-then bytes (head_bytes h.0) h.1 (little_bytes 2 (length labels.0)) n.1 th.0 t1 in
-        let q2 = Takes-then bytes (head_bytes h.0 ++ little_bytes 2 (length labels.0)) n.1 (flat_map label_bytes labels.0) labels.1 q1 t2 in
+        let q1 = Takes-then bytes (head_bytes newest_version h.0) h.1 (little_bytes 2 (length labels.0)) n.1 th.0 t1 in
+        let q2 = Takes-then bytes (head_bytes newest_version h.0 ++ little_bytes 2 (length labels.0)) n.1 (flat_map label_bytes labels.0) labels.1 q1 t2 in
         subst (λ (y : (Head × List (List ℕ)) × List ℕ). Takes bytes (front_bytes y.0) y.1 × FrontFits y.0) made (q2, record { head = th.1; label_count = ap is_label_count ln ∙ tn.kept; labels = subst (LabelsFit []) (sym tl.is) tl.fits })
 
 pub record TableFits (h : Head) (ps : List PartEntry × List ℕ) : Type 0 where
@@ -102,15 +103,15 @@ assemble : (bytes : List ℕ) (x : Manifest × List ℕ) (s : BodySteps bytes x)
     → Takes s.front.1 (table_bytes s.parts.0) s.parts.1 × TableFits s.front.0.0 s.parts.0
     → ReadsCells s.parts.1 (count_limits (widths 0 s.parts.0.0)) [] s.counts.0 s.counts.1
     → ReadsCells s.counts.1 (replicate (length s.parts.0.0 * length s.parts.0.0) s.front.0.0.round) [] s.joined.0 s.joined.1
-    → Takes bytes (spelling x.0) x.1 × Kept x.0
+    → Takes bytes (spelling newest_version x.0) x.1 × Kept x.0
 assemble bytes x s f p c j =
     let t5 : Takes s.parts.1 (flat_map (little_bytes 8) s.counts.0) s.counts.1 = subst (λ (m : List ℕ). Takes s.parts.1 (flat_map (little_bytes 8) m) s.counts.1) (sym c.is) c.takes in
     let t6 : Takes s.counts.1 (flat_map (little_bytes 8) s.joined.0) s.joined.1 = subst (λ (m : List ℕ). Takes s.counts.1 (flat_map (little_bytes 8) m) s.joined.1) (sym j.is) j.takes in
     let q1 = Takes-then bytes (front_bytes s.front.0) s.front.1 (table_bytes s.parts.0) s.parts.1 f.0 p.0 in
     let q2 = Takes-then bytes (front_bytes s.front.0 ++ table_bytes s.parts.0) s.parts.1 (flat_map (little_bytes 8) s.counts.0) s.counts.1 q1 t5 in
     let q3 = Takes-then bytes (front_bytes s.front.0 ++ table_bytes s.parts.0 ++ flat_map (little_bytes 8) s.counts.0) s.counts.1 (flat_map (little_bytes 8) s.joined.0) s.joined.1 q2 t6 in
-    let text : front_bytes s.front.0 ++ table_bytes s.parts.0 ++ flat_map (little_bytes 8) s.counts.0 ++ flat_map (little_bytes 8) s.joined.0 ≡ spelling (manifest_of s.front.0.0 s.front.0.1 s.parts.0 s.counts.0 s.joined.0) = simp append_assoc in
-    subst (λ (y : Manifest × List ℕ). Takes bytes (spelling y.0) y.1 × Kept y.0) s.made (
+    let text : front_bytes s.front.0 ++ table_bytes s.parts.0 ++ flat_map (little_bytes 8) s.counts.0 ++ flat_map (little_bytes 8) s.joined.0 ≡ spelling newest_version (manifest_of s.front.0.0 s.front.0.1 s.parts.0 s.counts.0 s.joined.0) = simp append_assoc in
+    subst (λ (y : Manifest × List ℕ). Takes bytes (spelling newest_version y.0) y.1 × Kept y.0) s.made (
       subst (λ (w : List ℕ). Takes bytes w s.joined.1) text q3,
       record {
         head = f.1.head;
@@ -126,7 +127,7 @@ assemble bytes x s f p c j =
       },
     )
 
-pub body_takes : (bytes : List ℕ) (x : Manifest × List ℕ) → IsBytes bytes → body_at bytes ≡ Ok x → Takes bytes (spelling x.0) x.1 × Kept x.0
+pub body_takes : (bytes : List ℕ) (x : Manifest × List ℕ) → IsBytes bytes → body_at bytes ≡ Ok x → Takes bytes (spelling newest_version x.0) x.1 × Kept x.0
 body_takes bytes x fits e =
     let s : BodySteps bytes x = body_steps bytes x e in
     let f = front_takes bytes s.front fits s.front_is in
@@ -140,9 +141,9 @@ unfolding front_at
 front_again f rest fits =
     let r2 : List ℕ = flat_map label_bytes f.1 ++ rest in
     let r1 : List ℕ = little_bytes 2 (length f.1) ++ r2 in
-    let regrouped : front_bytes f ++ rest ≡ head_bytes f.0 ++ r1 = simp append_assoc in
+    let regrouped : front_bytes f ++ rest ≡ head_bytes newest_version f.0 ++ r1 = simp append_assoc in
     let n : length f.1 < 256 ^ 2 = grind (arith, nat_tests, fits.label_count) in
-    ap front_at regrouped ∙ rw (head_again f.0 r1 fits.head, field_again 2 is_label_count BadNumber (length f.1) r2 n fits.label_count, labels_again f.1 [] rest fits.labels) refl
+    ap front_at regrouped ∙ rw (head_again newest_version f.0 r1 fits.head, field_again 2 is_label_count BadNumber (length f.1) r2 n fits.label_count, labels_again f.1 [] rest fits.labels) refl
 
 table_again : (h : Head) (parts : List PartEntry × List ℕ) (rest : List ℕ) → HeadFits h → TableFits h parts → table_at h (table_bytes parts ++ rest) ≡ Ok (parts, rest)
 unfolding table_at
@@ -158,7 +159,7 @@ remade : (m : Manifest) → Kept m → manifest_of (head_of m) m.labels (m.parts
 remade m fits = ap (λ (k : ℕ × ℕ). sized m k.0 k.1) (both_are (sym fits.map_size) (sym fits.marks_size))
   where
     sized : Manifest → ℕ → ℕ → Manifest
-    sized m k l = record { generation = m.generation; round = m.round; vertices = m.vertices; grammar_len = m.grammar_len; edges_len = m.edges_len; labels = m.labels; parts = m.parts; map = (k, m.map.1); marks = (l, m.marks.1, m.marks.2) }
+    sized m k l = record { generation = m.generation; round = m.round; vertices = m.vertices; grammar_len = m.grammar_len; edges_len = m.edges_len; first_len = m.first_len; labels = m.labels; parts = m.parts; map = (k, m.map.1); marks = (l, m.marks.1, m.marks.2) }
 
     both : ℕ → ℕ → ℕ × ℕ
     both a b = (a, b)
@@ -166,7 +167,7 @@ remade m fits = ap (λ (k : ℕ × ℕ). sized m k.0 k.1) (both_are (sym fits.ma
     both_are : {a b c d : ℕ} → a ≡ b → c ≡ d → both a c ≡ both b d
     both_are p q = cc
 
-pub body_again : (m : Manifest) (rest : List ℕ) → Kept m → body_at (spelling m ++ rest) ≡ Ok (m, rest)
+pub body_again : (m : Manifest) (rest : List ℕ) → Kept m → body_at (spelling newest_version m ++ rest) ≡ Ok (m, rest)
 unfolding body_at
 body_again m rest fits =
     let h = head_of m in
@@ -174,10 +175,10 @@ body_again m rest fits =
     let r6 : List ℕ = flat_map (little_bytes 8) m.marks.1 ++ rest in
     let r5 : List ℕ = flat_map (little_bytes 8) m.map.1 ++ r6 in
     let r4 : List ℕ = table_bytes ps ++ r5 in
-    let regrouped : spelling m ++ rest ≡ front_bytes (h, m.labels) ++ r4 = simp append_assoc in
+    let regrouped : spelling newest_version m ++ rest ≡ front_bytes (h, m.labels) ++ r4 = simp append_assoc in
     let front : FrontFits (h, m.labels) = record { head = fits.head; label_count = fits.label_count; labels = fits.labels } in
     let table : TableFits h ps = record { part_count = fits.part_count; parts = fits.parts } in
-    let read : body_at (spelling m ++ rest) ≡ Ok (manifest_of h m.labels ps m.map.1 m.marks.1, rest) = ap body_at regrouped ∙ rw (
+    let read : body_at (spelling newest_version m ++ rest) ≡ Ok (manifest_of h m.labels ps m.map.1 m.marks.1, rest) = ap body_at regrouped ∙ rw (
       front_again (h, m.labels) r4 front,
       table_again h ps r5 fits.head table,
       cells_again BadCount (count_limits (widths 0 m.parts)) m.map.1 [] r6 fits.counts,
@@ -249,8 +250,8 @@ done_reading x = Ok x
 is_done : (x y : Manifest × ℕ) → done_reading x ≡ done_reading y → x ≡ y
 is_done x y e = cc
 
-left_of : (bytes : List ℕ) (x : Manifest × List ℕ) → bytes ≡ spelling x.0 ++ x.1 → length bytes ≡ length (spelling x.0) + length x.1
-left_of bytes x t = ap length t ∙ length-append (spelling x.0) x.1
+left_of : (bytes : List ℕ) (x : Manifest × List ℕ) → bytes ≡ spelling newest_version x.0 ++ x.1 → length bytes ≡ length (spelling newest_version x.0) + length x.1
+left_of bytes x t = ap length t ∙ length-append (spelling newest_version x.0) x.1
 
 -- what stands behind the body is what is left of the bytes
 pub rest_is_left : (bytes : List ℕ) (x : Manifest × List ℕ) → IsBytes bytes → body_at bytes ≡ Ok x → length x.1 ≤ length bytes
@@ -259,17 +260,17 @@ rest_is_left bytes x fits e = omega (arith, left_of bytes x (body_takes bytes x 
 pub ok_found : (bytes : List ℕ) (x : Manifest × List ℕ) → IsBytes bytes → body_at bytes ≡ Ok x → Kept x.0 × Spells bytes x.0 (length bytes - length x.1)
 ok_found bytes x fits e =
     let t = body_takes bytes x fits e in
-    let len : length bytes ≡ length (spelling x.0) + length x.1 = left_of bytes x t.0.parts in
-    (t.1, (omega arith, ap (take (length bytes - length x.1)) t.0.parts ∙ take_at (spelling x.0) x.1 (length bytes - length x.1) (omega arith)))
+    let len : length bytes ≡ length (spelling newest_version x.0) + length x.1 = left_of bytes x t.0.parts in
+    (t.1, (newest_version, omega arith, ap (take (length bytes - length x.1)) t.0.parts ∙ take_at (spelling newest_version x.0) x.1 (length bytes - length x.1) (omega arith)))
 
 pub again_at : (bytes : List ℕ) (m : Manifest) (n : ℕ) → Kept m → Spells bytes m n → body_at bytes ≡ Ok (m, drop n bytes)
-again_at bytes m n fits spells =
-    ap body_at (sym (take-append-drop n bytes) ∙ ap (λ (t : List ℕ). t ++ drop n bytes) spells.1) ∙ body_again m (drop n bytes) fits
+again_at bytes m n fits (First, within, spelled) =
+    ap body_at (sym (take-append-drop n bytes) ∙ ap (λ (t : List ℕ). t ++ drop n bytes) spelled) ∙ body_again m (drop n bytes) fits
 
 pub ok_only : (bytes : List ℕ) (x : Manifest × List ℕ) (m : Manifest) (n : ℕ) → body_at bytes ≡ Ok x → Kept m → Spells bytes m n → (x.0 ≡ m) × (length bytes - length x.1 ≡ n)
 ok_only bytes x m n e fits spells =
     let same : x ≡ (m, drop n bytes) = ok_is x (m, drop n bytes) (sym e ∙ again_at bytes m n fits spells) in
-    (ap (λ (y : Manifest × List ℕ). y.0) same, ap (λ (y : Manifest × List ℕ). length bytes - length y.1) same ∙ omega (arith, length-drop n bytes, spells.0))
+    (ap (λ (y : Manifest × List ℕ). y.0) same, ap (λ (y : Manifest × List ℕ). length bytes - length y.1) same ∙ omega (arith, length-drop n bytes, spells.1))
 
 pub err_only : (bytes : List ℕ) (d : Broken) (m : Manifest) (n : ℕ) → body_at bytes ≡ Err d → Kept m → Spells bytes m n → ⊥
 err_only bytes d m n e fits spells = let h = again_at bytes m n fits spells in absurd cc

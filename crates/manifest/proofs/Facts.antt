@@ -39,7 +39,7 @@ bytes_from_all bytes all i =
 
 pub spelling_is_read : (m : Manifest) (bytes : List ℕ) (n : ℕ) → Fits m → Spells bytes m n → reading bytes ≡ Ok (m, n)
 spelling_is_read m bytes n fits spells =
-    let left : length bytes - length (drop n bytes) ≡ n = omega (arith, length-drop n bytes, spells.0) in
+    let left : length bytes - length (drop n bytes) ≡ n = omega (arith, length-drop n bytes, spells.1) in
     ap (counted (length bytes)) (again_at bytes m n (kept_from_words m fits) spells) ∙ ap (λ (k : ℕ). done (m, k)) left
 
 -- what a reader found

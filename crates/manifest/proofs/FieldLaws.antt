@@ -10,8 +10,10 @@ use Rattle.disk_model.specs.declared.form_kind.FormKind.{FormKind}
 use Rattle.disk_model.specs.declared.form_kind.FormKind.TheVariants.{Short, BadMagic, BadNumber, BadParts, BadFile, BadMark}
 use Rattle.manifest.specs.declared.types.Broken.{Broken}
 use Rattle.manifest.specs.declared.types.Head.{Head}
+use Rattle.manifest.specs.declared.types.Version.{Version}
+use Rattle.manifest.specs.declared.types.Version.TheVariants.{First}
 use Rattle.manifest.specs.declared.types.PartEntry.{PartEntry}
-use Rattle.manifest.specs.Rules.{is_magic, is_generation, is_round, is_vertices, is_grammar_len, is_edges_len, is_end, is_file, is_newest, first_magic}
+use Rattle.manifest.specs.Rules.{is_magic, is_generation, is_round, is_vertices, is_grammar_len, is_edges_len, is_end, is_file, is_newest, magic_of}
 use Rattle.manifest.specs.Reading.{◌>>=◌, number_at, field_at, broken, head_at, part_at}
 use Rattle.manifest.specs.Spelling.{head_bytes, part_bytes}
 use Rattle.manifest.proofs.Kept.{HeadFits}
@@ -129,30 +131,30 @@ part_takes h left low before bytes x fits e =
 
 -- ---- the head
 
-pub head_takes : (bytes : List ℕ) (x : Head × List ℕ) → IsBytes bytes → head_at bytes ≡ Ok x → Takes bytes (head_bytes x.0) x.1 × HeadFits x.0
+pub head_takes : (v : Version) (bytes : List ℕ) (x : Head × List ℕ) → IsBytes bytes → head_at v bytes ≡ Ok x → Takes bytes (head_bytes v x.0) x.1 × HeadFits x.0
 unfolding head_at
-head_takes bytes x fits e =
-    let s0 = step_ok (field_at 4 is_magic BadMagic bytes) (λ magic. field_at 1 is_generation BadNumber magic.1 >>= λ generation. field_at 8 is_round BadNumber generation.1 >>= λ round. field_at 4 is_vertices BadNumber round.1 >>= λ vertices. field_at 8 is_grammar_len BadNumber vertices.1 >>= λ grammar. field_at 8 is_edges_len BadNumber grammar.1 >>= λ edges. Ok (record { generation = generation.0; round = round.0; vertices = vertices.0; grammar_len = grammar.0; edges_len = edges.0 }, edges.1)) x e in
-    let s1 = step_ok (field_at 1 is_generation BadNumber s0.x.1) (λ generation. field_at 8 is_round BadNumber generation.1 >>= λ round. field_at 4 is_vertices BadNumber round.1 >>= λ vertices. field_at 8 is_grammar_len BadNumber vertices.1 >>= λ grammar. field_at 8 is_edges_len BadNumber grammar.1 >>= λ edges. Ok (record { generation = generation.0; round = round.0; vertices = vertices.0; grammar_len = grammar.0; edges_len = edges.0 }, edges.1)) x s0.leads in
-    let s2 = step_ok (field_at 8 is_round BadNumber s1.x.1) (λ round. field_at 4 is_vertices BadNumber round.1 >>= λ vertices. field_at 8 is_grammar_len BadNumber vertices.1 >>= λ grammar. field_at 8 is_edges_len BadNumber grammar.1 >>= λ edges. Ok (record { generation = s1.x.0; round = round.0; vertices = vertices.0; grammar_len = grammar.0; edges_len = edges.0 }, edges.1)) x s1.leads in
-    let s3 = step_ok (field_at 4 is_vertices BadNumber s2.x.1) (λ vertices. field_at 8 is_grammar_len BadNumber vertices.1 >>= λ grammar. field_at 8 is_edges_len BadNumber grammar.1 >>= λ edges. Ok (record { generation = s1.x.0; round = s2.x.0; vertices = vertices.0; grammar_len = grammar.0; edges_len = edges.0 }, edges.1)) x s2.leads in
-    let s4 = step_ok (field_at 8 is_grammar_len BadNumber s3.x.1) (λ grammar. field_at 8 is_edges_len BadNumber grammar.1 >>= λ edges. Ok (record { generation = s1.x.0; round = s2.x.0; vertices = s3.x.0; grammar_len = grammar.0; edges_len = edges.0 }, edges.1)) x s3.leads in
-    let s5 = step_ok (field_at 8 is_edges_len BadNumber s4.x.1) (λ edges. Ok (record { generation = s1.x.0; round = s2.x.0; vertices = s3.x.0; grammar_len = s4.x.0; edges_len = edges.0 }, edges.1)) x s4.leads in
-    let f0 = field_takes 4 wide4 is_magic BadMagic bytes s0.x fits s0.is in
+head_takes First bytes x fits e =
+    let s0 = step_ok (field_at 4 (is_magic First) BadMagic bytes) (λ magic. field_at 1 is_generation BadNumber magic.1 >>= λ generation. field_at 8 is_round BadNumber generation.1 >>= λ round. field_at 4 is_vertices BadNumber round.1 >>= λ vertices. field_at 8 is_grammar_len BadNumber vertices.1 >>= λ grammar. field_at 8 is_edges_len BadNumber grammar.1 >>= λ edges. Ok (record { generation = generation.0; round = round.0; vertices = vertices.0; grammar_len = grammar.0; edges_len = edges.0; first_len = edges.0 }, edges.1)) x e in
+    let s1 = step_ok (field_at 1 is_generation BadNumber s0.x.1) (λ generation. field_at 8 is_round BadNumber generation.1 >>= λ round. field_at 4 is_vertices BadNumber round.1 >>= λ vertices. field_at 8 is_grammar_len BadNumber vertices.1 >>= λ grammar. field_at 8 is_edges_len BadNumber grammar.1 >>= λ edges. Ok (record { generation = generation.0; round = round.0; vertices = vertices.0; grammar_len = grammar.0; edges_len = edges.0; first_len = edges.0 }, edges.1)) x s0.leads in
+    let s2 = step_ok (field_at 8 is_round BadNumber s1.x.1) (λ round. field_at 4 is_vertices BadNumber round.1 >>= λ vertices. field_at 8 is_grammar_len BadNumber vertices.1 >>= λ grammar. field_at 8 is_edges_len BadNumber grammar.1 >>= λ edges. Ok (record { generation = s1.x.0; round = round.0; vertices = vertices.0; grammar_len = grammar.0; edges_len = edges.0; first_len = edges.0 }, edges.1)) x s1.leads in
+    let s3 = step_ok (field_at 4 is_vertices BadNumber s2.x.1) (λ vertices. field_at 8 is_grammar_len BadNumber vertices.1 >>= λ grammar. field_at 8 is_edges_len BadNumber grammar.1 >>= λ edges. Ok (record { generation = s1.x.0; round = s2.x.0; vertices = vertices.0; grammar_len = grammar.0; edges_len = edges.0; first_len = edges.0 }, edges.1)) x s2.leads in
+    let s4 = step_ok (field_at 8 is_grammar_len BadNumber s3.x.1) (λ grammar. field_at 8 is_edges_len BadNumber grammar.1 >>= λ edges. Ok (record { generation = s1.x.0; round = s2.x.0; vertices = s3.x.0; grammar_len = grammar.0; edges_len = edges.0; first_len = edges.0 }, edges.1)) x s3.leads in
+    let s5 = step_ok (field_at 8 is_edges_len BadNumber s4.x.1) (λ edges. Ok (record { generation = s1.x.0; round = s2.x.0; vertices = s3.x.0; grammar_len = s4.x.0; edges_len = edges.0; first_len = edges.0 }, edges.1)) x s4.leads in
+    let f0 = field_takes 4 wide4 (is_magic First) BadMagic bytes s0.x fits s0.is in
     let f1 = field_takes 1 wide1 is_generation BadNumber s0.x.1 s1.x f0.takes.rest_fits s1.is in
     let f2 = field_takes 8 wide8 is_round BadNumber s1.x.1 s2.x f1.takes.rest_fits s2.is in
     let f3 = field_takes 4 wide4 is_vertices BadNumber s2.x.1 s3.x f2.takes.rest_fits s3.is in
     let f4 = field_takes 8 wide8 is_grammar_len BadNumber s3.x.1 s4.x f3.takes.rest_fits s4.is in
     let f5 = field_takes 8 wide8 is_edges_len BadNumber s4.x.1 s5.x f4.takes.rest_fits s5.is in
-    let magic : s0.x.0 ≡ first_magic = eqb-true s0.x.0 first_magic f0.kept in
-    let made : Head × List ℕ = (record { generation = s1.x.0; round = s2.x.0; vertices = s3.x.0; grammar_len = s4.x.0; edges_len = s5.x.0 }, s5.x.1) in
-    let t0 : Takes bytes (little_bytes 4 first_magic) s0.x.1 = subst (λ (k : ℕ). Takes bytes (little_bytes 4 k) s0.x.1) magic f0.takes in
-    let t1 = Takes-then bytes (little_bytes 4 first_magic) s0.x.1 (little_bytes 1 s1.x.0) s1.x.1 t0 f1.takes in
-    let t2 = Takes-then bytes (little_bytes 4 first_magic ++ little_bytes 1 s1.x.0) s1.x.1 (little_bytes 8 s2.x.0) s2.x.1 t1 f2.takes in
-    let t3 = Takes-then bytes (little_bytes 4 first_magic ++ little_bytes 1 s1.x.0 ++ little_bytes 8 s2.x.0) s2.x.1 (little_bytes 4 s3.x.0) s3.x.1 t2 f3.takes in
-    let t4 = Takes-then bytes (little_bytes 4 first_magic ++ little_bytes 1 s1.x.0 ++ little_bytes 8 s2.x.0 ++ little_bytes 4 s3.x.0) s3.x.1 (little_bytes 8 s4.x.0) s4.x.1 t3 f4.takes in
-    let t5 = Takes-then bytes (little_bytes 4 first_magic ++ little_bytes 1 s1.x.0 ++ little_bytes 8 s2.x.0 ++ little_bytes 4 s3.x.0 ++ little_bytes 8 s4.x.0) s4.x.1 (little_bytes 8 s5.x.0) s5.x.1 t4 f5.takes in
-    subst (λ (y : Head × List ℕ). Takes bytes (head_bytes y.0) y.1 × HeadFits y.0) (ok_is made x s5.leads) (t5, record { generation = f1.kept; round = f2.kept; vertices = f3.kept; grammar_len = f4.kept; edges_len = f5.kept; rounds = f2.below })
+    let magic : s0.x.0 ≡ magic_of First = eqb-true s0.x.0 (magic_of First) f0.kept in
+    let made : Head × List ℕ = (record { generation = s1.x.0; round = s2.x.0; vertices = s3.x.0; grammar_len = s4.x.0; edges_len = s5.x.0; first_len = s5.x.0 }, s5.x.1) in
+    let t0 : Takes bytes (little_bytes 4 (magic_of First)) s0.x.1 = subst (λ (k : ℕ). Takes bytes (little_bytes 4 k) s0.x.1) magic f0.takes in
+    let t1 = Takes-then bytes (little_bytes 4 (magic_of First)) s0.x.1 (little_bytes 1 s1.x.0) s1.x.1 t0 f1.takes in
+    let t2 = Takes-then bytes (little_bytes 4 (magic_of First) ++ little_bytes 1 s1.x.0) s1.x.1 (little_bytes 8 s2.x.0) s2.x.1 t1 f2.takes in
+    let t3 = Takes-then bytes (little_bytes 4 (magic_of First) ++ little_bytes 1 s1.x.0 ++ little_bytes 8 s2.x.0) s2.x.1 (little_bytes 4 s3.x.0) s3.x.1 t2 f3.takes in
+    let t4 = Takes-then bytes (little_bytes 4 (magic_of First) ++ little_bytes 1 s1.x.0 ++ little_bytes 8 s2.x.0 ++ little_bytes 4 s3.x.0) s3.x.1 (little_bytes 8 s4.x.0) s4.x.1 t3 f4.takes in
+    let t5 = Takes-then bytes (little_bytes 4 (magic_of First) ++ little_bytes 1 s1.x.0 ++ little_bytes 8 s2.x.0 ++ little_bytes 4 s3.x.0 ++ little_bytes 8 s4.x.0) s4.x.1 (little_bytes 8 s5.x.0) s5.x.1 t4 f5.takes in
+    subst (λ (y : Head × List ℕ). Takes bytes (head_bytes First y.0) y.1 × HeadFits y.0) (ok_is made x s5.leads) (t5, record { generation = f1.kept; round = f2.kept; vertices = f3.kept; grammar_len = f4.kept; edges_len = f5.kept; first_len = refl; rounds = f2.below })
 
 pub part_again : (h : Head) (left low : ℕ) (before : List PartEntry) (p : PartEntry) (newest : ℕ) (rest : List ℕ) → h.vertices < 2 ^ 32 → h.round < 2 ^ 64 → is_end h.vertices left low p.hi ≡ true → is_file before p.file ≡ true → is_newest h.round newest ≡ true → part_at h left low before (part_bytes p newest ++ rest) ≡ Ok ((p, newest), rest)
 unfolding part_at
@@ -167,24 +169,24 @@ part_again h left low before p newest rest vertices round end file born =
       field_again 8 (is_newest h.round) BadMark newest rest c born,
     ) refl
 
-pub head_again : (h : Head) (rest : List ℕ) → HeadFits h → head_at (head_bytes h ++ rest) ≡ Ok (h, rest)
+pub head_again : (v : Version) (h : Head) (rest : List ℕ) → HeadFits h → head_at v (head_bytes v h ++ rest) ≡ Ok (h, rest)
 unfolding head_at
-head_again h rest fits =
+head_again First h rest fits =
     let r5 : List ℕ = little_bytes 8 h.edges_len ++ rest in
     let r4 : List ℕ = little_bytes 8 h.grammar_len ++ r5 in
     let r3 : List ℕ = little_bytes 4 h.vertices ++ r4 in
     let r2 : List ℕ = little_bytes 8 h.round ++ r3 in
     let r1 : List ℕ = little_bytes 1 h.generation ++ r2 in
-    let regrouped : head_bytes h ++ rest ≡ little_bytes 4 first_magic ++ r1 = simp append_assoc in
+    let regrouped : head_bytes First h ++ rest ≡ little_bytes 4 (magic_of First) ++ r1 = simp append_assoc in
     let generation : h.generation < 256 ^ 1 = grind (arith, nat_tests, fits.generation) in
     let vertices : h.vertices < 256 ^ 4 = grind (arith, nat_tests, fits.vertices) in
     let grammar : h.grammar_len < 256 ^ 8 = grind (arith, nat_tests, fits.grammar_len) in
     let edges : h.edges_len < 256 ^ 8 = grind (arith, nat_tests, fits.edges_len) in
-    ap head_at regrouped ∙ rw (
-      field_again 4 is_magic BadMagic first_magic r1 (omega arith) refl,
+    ap (head_at First) regrouped ∙ rw (
+      field_again 4 (is_magic First) BadMagic (magic_of First) r1 (omega arith) refl,
       field_again 1 is_generation BadNumber h.generation r2 generation fits.generation,
       field_again 8 is_round BadNumber h.round r3 (omega (arith, fits.rounds)) fits.round,
       field_again 4 is_vertices BadNumber h.vertices r4 vertices fits.vertices,
       field_again 8 is_grammar_len BadNumber h.grammar_len r5 grammar fits.grammar_len,
       field_again 8 is_edges_len BadNumber h.edges_len rest edges fits.edges_len,
-    ) refl
+    ) (ap (λ (n : ℕ). Ok (record { generation = h.generation; round = h.round; vertices = h.vertices; grammar_len = h.grammar_len; edges_len = h.edges_len; first_len = n }, rest)) (sym fits.first_len))

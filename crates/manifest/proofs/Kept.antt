@@ -15,6 +15,7 @@ pub record HeadFits (h : Head) : Type 0 where
   pub vertices : IsTrue (is_vertices h.vertices)
   pub grammar_len : IsTrue (is_grammar_len h.grammar_len)
   pub edges_len : IsTrue (is_edges_len h.edges_len)
+  pub first_len : h.first_len ≡ h.edges_len
   pub rounds : h.round < 2 ^ 64
 
 -- each is a label, and none stands among those before

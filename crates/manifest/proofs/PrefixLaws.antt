@@ -16,9 +16,11 @@ use Rattle.manifest.specs.declared.types.PartEntry.{PartEntry}
 use Rattle.manifest.specs.declared.types.Manifest.{Manifest}
 use Rattle.manifest.specs.declared.types.ManifestFault.{ManifestFault}
 use Rattle.manifest.specs.Reading.{◌>>=◌, Read, broken, number_at, field_at, head_at, label_at, labels_at, part_at, parts_at, cells_at, front_at, table_at, body_at, counted}
-use Rattle.manifest.specs.Rules.{is_magic, is_generation}
+use Rattle.manifest.specs.Rules.{newest_version, is_magic, is_generation}
 use Rattle.manifest.proofs.FieldLaws.{step_ok, test_ok, ok_is}
 use Rattle.manifest.specs.Prefix.{IsCut, Settles}
+use Rattle.manifest.specs.declared.types.Version.{Version}
+use Rattle.manifest.specs.declared.types.Version.TheVariants.{First}
 
 -- the field that breaks its rule has so many bytes more behind it
 abbrev longer : Broken → List ℕ → Broken
@@ -69,9 +71,9 @@ field_goes w rule kind bytes more =
     step more (number_at w bytes) (number_at w (bytes ++ more)) (λ n. if rule n.0 then Ok n else Err (broken bytes kind)) (λ n. if rule n.0 then Ok n else Err (broken (bytes ++ more) kind)) (number_goes w bytes more)
     (λ x is. rule_goes (rule x.0) x.0 x.1 more bytes (bytes ++ more) kind refl)
 
-head_goes : (bytes more : List ℕ) → Goes more (head_at bytes) (head_at (bytes ++ more))
+head_goes : (v : Version) (bytes more : List ℕ) → Goes more (head_at v bytes) (head_at v (bytes ++ more))
 unfolding head_at
-head_goes bytes more =
+head_goes First bytes more =
     step more _ _ _ _ (field_goes 4 _ _ bytes more) (λ magic is.
     step more _ _ _ _ (field_goes 1 _ _ magic.1 more) (λ generation is.
     step more _ _ _ _ (field_goes 8 _ _ generation.1 more) (λ round is.
@@ -143,7 +145,7 @@ cells_go kind (limit ∷ limits) before bytes more = step more _ _ _ _ (field_go
 front_goes : (bytes more : List ℕ) → Goes more (front_at bytes) (front_at (bytes ++ more))
 unfolding front_at
 front_goes bytes more =
-    step more _ _ _ _ (head_goes bytes more) (λ h is.
+    step more _ _ _ _ (head_goes newest_version bytes more) (λ h is.
     step more _ _ _ _ (field_goes 2 _ _ h.1 more) (λ n is.
     step more _ _ _ _ (labels_go n.0 [] n.1 more) (λ labels is. refl)))
 
@@ -180,10 +182,10 @@ field-left w rule kind bytes x is =
 front-long : (bytes : List ℕ) (x : (Head × List (List ℕ)) × List ℕ) → front_at bytes ≡ Ok x → 5 ≤ length bytes
 unfolding front_at head_at
 front-long bytes x is =
-    let head = step_ok (head_at bytes) _ x is in
-    let magic = step_ok (field_at 4 is_magic BadMagic bytes) _ head.x head.is in
+    let head = step_ok (head_at newest_version bytes) _ x is in
+    let magic = step_ok (field_at 4 (is_magic First) BadMagic bytes) _ head.x head.is in
     let generation = step_ok (field_at 1 is_generation BadNumber magic.x.1) _ head.x magic.leads in
-    omega (arith, field-left 4 is_magic BadMagic bytes magic.x magic.is, field-left 1 is_generation BadNumber magic.x.1 generation.x generation.is)
+    omega (arith, field-left 4 (is_magic First) BadMagic bytes magic.x magic.is, field-left 1 is_generation BadNumber magic.x.1 generation.x generation.is)
 
 body_goes : (bytes more : List ℕ) → Goes more (body_at bytes) (body_at (bytes ++ more))
 unfolding body_at

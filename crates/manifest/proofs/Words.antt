@@ -24,6 +24,7 @@ use Rattle.pair_sched.specs.Marks.{joined_of}
 use Rattle.manifest.proofs.Tables.{length-widths, length-limits, limit_at, entry_at, place_within, by_rows, all_from_places, places_from_all}
 use Rattle.manifest.proofs.ListLaws.{cells_paired}
 use Rattle.manifest.proofs.Kept.{LabelsFit, PartsFit, CellsFit, Kept}
+use Rattle.graph_words.specs.declared.text.TheConstants.{MOST_LABEL_BYTES}
 
 at_most_yes : (limit n : ℕ) → n ≤ limit → at_most limit n ≡ true
 at_most_yes limit n le = ap not (le-ltb limit n le)
@@ -272,6 +273,7 @@ kept_from_words m f =
         vertices = at_most_yes 16777216 m.vertices f.vertices;
         grammar_len = at_most_yes 16777216 m.grammar_len f.grammar_len;
         edges_len = at_most_yes 1099511627776 m.edges_len f.edges_len;
+        first_len = f.first_len;
         rounds = f.rounds;
       };
       label_count = at_most_yes 1000 (length m.labels) f.labels.short;
@@ -297,6 +299,7 @@ words_from_kept m k =
       vertices = at_most_says 16777216 m.vertices k.head.vertices;
       grammar_len = at_most_says 16777216 m.grammar_len k.head.grammar_len;
       edges_len = at_most_says 1099511627776 m.edges_len k.head.edges_len;
+      first_len = k.head.first_len;
       labels = record { once = t.0; short = at_most_says 1000 (length m.labels) k.label_count; labels = t.1 };
       few = part_count_says m.vertices (length m.parts) k.part_count;
       cover = cover_from (head_of m) m.parts (newest_in m) k.part_count k.parts;
@@ -315,9 +318,9 @@ words_from_kept m k =
 
 -- ---- what encoding needs
 
-short_names : (names : List (List ℕ)) → AllByRecursion IsLabel names → AllByRecursion (λ name. length name ≤ 64) names
+short_names : (names : List (List ℕ)) → AllByRecursion IsLabel names → AllByRecursion (λ name. length name ≤ MOST_LABEL_BYTES) names
 short_names [] labels = tt
 short_names (l ∷ names) labels = (labels.0.short, short_names names labels.1)
 
-pub labels_short : (m : Manifest) → Fits m → AllByRecursion (λ name. length name ≤ 64) m.labels
+pub labels_short : (m : Manifest) → Fits m → AllByRecursion (λ name. length name ≤ MOST_LABEL_BYTES) m.labels
 labels_short m f = short_names m.labels (recursion_from_All IsLabel m.labels f.labels.labels)

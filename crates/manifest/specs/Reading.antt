@@ -6,6 +6,8 @@ use Rattle.disk_model.specs.declared.form_kind.FormKind.TheVariants.{BadMagic, S
 use Rattle.graph_words.specs.Text.{is_label_word}
 use Rattle.label_table.specs.Names.{has_name}
 use Rattle.manifest.specs.declared.types.PartEntry.{PartEntry}
+use Rattle.manifest.specs.declared.types.Version.{Version}
+use Rattle.manifest.specs.declared.types.Version.TheVariants.{First}
 use Rattle.manifest.specs.declared.types.Head.{Head}
 use Rattle.manifest.specs.declared.types.Manifest.{Manifest}
 use Rattle.manifest.specs.declared.types.Broken.{Broken}
@@ -14,7 +16,7 @@ use Rattle.manifest.specs.declared.types.FieldError.TheVariants as errors
 use Rattle.manifest.specs.declared.types.ManifestFault.{ManifestFault}
 use Rattle.manifest.specs.declared.types.ManifestError.{ManifestError}
 use Rattle.manifest.specs.declared.types.ManifestError.TheVariants as faults
-use Rattle.manifest.specs.Rules.{is_magic, is_generation, is_round, is_vertices, is_grammar_len, is_edges_len, is_label_count, is_part_count, is_end, is_file, is_newest, at_most, widths, count_limits, is_reached}
+use Rattle.manifest.specs.Rules.{newest_version, is_magic, is_generation, is_round, is_vertices, is_grammar_len, is_edges_len, is_label_count, is_part_count, is_end, is_file, is_newest, at_most, widths, count_limits, is_reached}
 
 infixl 10 ◌>>=◌
 abbrev pub ◌>>=◌ : {A B : Type 0} → Result A Broken → (A → Result B Broken) → Result B Broken
@@ -39,15 +41,20 @@ field_at w rule kind bytes = do
   n ← number_at w bytes
   if rule n.0 then Ok n else Err (broken bytes kind)
 
-unfoldable pub head_at : List ℕ → Read Head
-head_at bytes = do
-  magic ← field_at 4 is_magic BadMagic bytes
+-- the version whose magic the bytes begin with, and the newest where they begin with none
+abbrev pub version_in : List ℕ → Version
+version_in bytes = newest_version
+
+-- the magic of a version, and the numbers behind it. In the first version the edges are one file's.
+unfoldable pub head_at : Version → List ℕ → Read Head
+head_at First bytes = do
+  magic ← field_at 4 (is_magic First) BadMagic bytes
   generation ← field_at 1 is_generation BadNumber magic.1
   round ← field_at 8 is_round BadNumber generation.1
   vertices ← field_at 4 is_vertices BadNumber round.1
   grammar ← field_at 8 is_grammar_len BadNumber vertices.1
   edges ← field_at 8 is_edges_len BadNumber grammar.1
-  Ok (record { generation = generation.0; round = round.0; vertices = vertices.0; grammar_len = grammar.0; edges_len = edges.0 }, edges.1)
+  Ok (record { generation = generation.0; round = round.0; vertices = vertices.0; grammar_len = grammar.0; edges_len = edges.0; first_len = edges.0 }, edges.1)
 
 -- a label behind those before: a length, and as many bytes, are one field
 unfoldable pub label_at : List (List ℕ) → List ℕ → Read (List (List ℕ))
@@ -89,7 +96,7 @@ cells_at kind (limit ∷ limits) before bytes = do
 -- the head and the labels
 unfoldable pub front_at : List ℕ → Read (Head × List (List ℕ))
 front_at bytes = do
-  h ← head_at bytes
+  h ← head_at (version_in bytes) bytes
   n ← field_at 2 is_label_count BadNumber h.1
   labels ← labels_at n.0 [] n.1
   Ok ((h.0, labels.0), labels.1)
@@ -108,6 +115,7 @@ manifest_of h labels parts counts joined = record {
   vertices = h.vertices;
   grammar_len = h.grammar_len;
   edges_len = h.edges_len;
+  first_len = h.first_len;
   labels = labels;
   parts = parts.0;
   map = (length parts.0, counts);

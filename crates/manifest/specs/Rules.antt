@@ -3,15 +3,26 @@ use Rattle.std.specs.Prelude.{ℕ, ◌+◌, ◌-◌, ◌*◌, Bool, not, nat_lt,
 use Rattle.std.specs.List.{flat_map, list_any}
 use Rattle.byteorder.specs.Endian.{little_number}
 use Rattle.manifest.specs.declared.types.PartEntry.{PartEntry}
+use Rattle.manifest.specs.declared.types.Version.{Version}
+use Rattle.manifest.specs.declared.types.Version.TheVariants.{First}
 
 abbrev pub at_most : ℕ → ℕ → Bool
 at_most limit n = not (nat_lt limit n)
 
-abbrev pub first_magic : ℕ
-first_magic = little_number 4 (codes "GSM1")
+-- the version that is written
+abbrev pub newest_version : Version
+newest_version = First
 
-abbrev pub is_magic : ℕ → Bool
-is_magic n = n == first_magic
+-- the magic of a version, as a number
+abbrev pub magic_of : Version → ℕ
+magic_of First = little_number 4 (codes "GSM1")
+
+-- where a version has the number of labels. The byte before the body, the gate, is at place 0.
+abbrev pub labels_place : Version → ℕ
+labels_place First = 34
+
+abbrev pub is_magic : Version → ℕ → Bool
+is_magic v n = n == magic_of v
 
 abbrev pub is_generation : ℕ → Bool
 is_generation n = at_most 2 n

@@ -1,4 +1,4 @@
--- Which manifests keep the rules, and their one spelling.
+-- Which manifests keep the rules, and their spellings, one in each version.
 use Rattle.std.specs.Prelude.{◌≡◌, ◌≢◌, ℕ, ◌+◌, ◌*◌, ◌^◌, ◌<◌, ◌≤◌, take, List, [], ◌∷◌, ◌++◌, length, sum, slice_index_or, All, AllPairs}
 use Rattle.std.specs.List.{flat_map}
 use Rattle.byteorder.specs.Endian.{little_bytes}
@@ -6,13 +6,16 @@ use Rattle.label_table.specs.Names.{IsTable}
 use Rattle.dest_map.specs.Table.{counts_of}
 use Rattle.pair_sched.specs.Marks.{joined_of, newest_of}
 use Rattle.manifest.specs.declared.types.PartEntry.{PartEntry}
+use Rattle.manifest.specs.declared.types.Version.{Version}
+use Rattle.manifest.specs.declared.types.Version.TheVariants.{First}
+use Rattle.graph_words.specs.declared.text.TheConstants.{MOST_LABEL_BYTES}
 use Rattle.manifest.specs.declared.types.Head.{Head}
 use Rattle.manifest.specs.declared.types.Manifest.{Manifest}
-use Rattle.manifest.specs.Rules.{widths, first_magic}
+use Rattle.manifest.specs.Rules.{widths, magic_of}
 
 -- the numbers in front
 abbrev pub head_of : Manifest → Head
-head_of m = record { generation = m.generation; round = m.round; vertices = m.vertices; grammar_len = m.grammar_len; edges_len = m.edges_len }
+head_of m = record { generation = m.generation; round = m.round; vertices = m.vertices; grammar_len = m.grammar_len; edges_len = m.edges_len; first_len = m.first_len }
 
 -- the greatest birth of each partition
 abbrev pub newest_in : Manifest → List ℕ
@@ -20,8 +23,9 @@ newest_in m = m.marks.2
 
 -- ---- the spelling
 
-abbrev pub head_bytes : Head → List ℕ
-head_bytes h = little_bytes 4 first_magic ++ little_bytes 1 h.generation ++ little_bytes 8 h.round ++ little_bytes 4 h.vertices ++ little_bytes 8 h.grammar_len ++ little_bytes 8 h.edges_len
+-- in the first version the edges are one file's
+abbrev pub head_bytes : Version → Head → List ℕ
+head_bytes First h = little_bytes 4 (magic_of First) ++ little_bytes 1 h.generation ++ little_bytes 8 h.round ++ little_bytes 4 h.vertices ++ little_bytes 8 h.grammar_len ++ little_bytes 8 h.edges_len
 
 -- a length, and as many bytes
 abbrev pub label_bytes : List ℕ → List ℕ
@@ -35,18 +39,22 @@ abbrev pub parts_bytes : List PartEntry → List ℕ → List ℕ
 parts_bytes (p ∷ parts) (n ∷ newest) = part_bytes p n ++ parts_bytes parts newest
 parts_bytes _ _ = []
 
--- the one spelling of a manifest
-abbrev pub spelling : Manifest → List ℕ
-spelling m =
-    head_bytes (head_of m)
+-- the one spelling of a manifest in a version
+abbrev pub spelling : Version → Manifest → List ℕ
+spelling v m =
+    head_bytes v (head_of m)
     ++ little_bytes 2 (length m.labels) ++ flat_map label_bytes m.labels
     ++ little_bytes 2 (length m.parts) ++ parts_bytes m.parts (newest_in m)
     ++ flat_map (little_bytes 8) m.map.1
     ++ flat_map (little_bytes 8) m.marks.1
 
--- the first n bytes are the spelling of the manifest
+-- the first n bytes are the spelling of the manifest in some version
 abbrev pub Spells : List ℕ → Manifest → ℕ → Type 0
-Spells bytes m n = (n ≤ length bytes) × (take n bytes ≡ spelling m)
+Spells bytes m n = (v : Version) × (n ≤ length bytes) × (take n bytes ≡ spelling v m)
+
+-- how many bytes a spelling has at the most
+abbrev pub longest : ℕ
+longest = 1052709 + 1000 * (1 + MOST_LABEL_BYTES)
 
 -- ---- the rules
 
@@ -78,6 +86,8 @@ pub record Fits (m : Manifest) : Type 0 where
   pub vertices : m.vertices ≤ 16777216
   pub grammar_len : m.grammar_len ≤ 16777216
   pub edges_len : m.edges_len ≤ 1099511627776
+  -- the newest version can tell only this
+  pub first_len : m.first_len ≡ m.edges_len
   pub labels : IsTable m.labels
   pub few : length m.parts ≤ 256
   pub cover : Cover m.vertices 0 m.parts

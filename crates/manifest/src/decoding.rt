@@ -72,6 +72,7 @@ fn body_of(alloc: Global, bytes: &[u8]) -> Result<(Manifest, &[u8]), FieldError>
         vertices: head.vertices,
         grammar_len: head.grammar_len,
         edges_len: head.edges_len,
+        first_len: head.first_len,
         labels,
         parts,
         map: DestMap::of_counts(size, counts),

@@ -1,10 +1,13 @@
 ghost use Rattle.std.specs.Prelude.{◌≡◌, ◌≤◌, ◌<◌, ◌^◌, ◌++◌, ◌∷◌, ℕ, List, [], length, OnOk, IfOk};
 ghost use Rattle.std.specs.List.{flat_map, AllByRecursion};
 ghost use Rattle.byteorder.specs.Endian.{little_bytes};
+ghost use Rattle.manifest.specs.declared.types.Version.TheVariants.{First};
+ghost use Rattle.manifest.specs.Rules.{newest_version};
 ghost use Rattle.manifest.specs.Spelling.{Fits, spelling, head_of, head_bytes, label_bytes, part_bytes, parts_bytes};
 
 use crate::types::{Manifest, PartEntry};
 use byteorder::{ByteOrder, LittleEndian};
+use graph_words::MOST_LABEL_BYTES;
 use label_table::Name;
 use std::alloc::{AllocError, Global};
 
@@ -41,7 +44,7 @@ fn put_u8(out: &mut Vec<u8>, n: u8) -> Result<(), AllocError>
 
 /// The magic, and the numbers behind it.
 fn put_head(out: &mut Vec<u8>, m: &Manifest) -> Result<(), AllocError>
-    ensures { OnOk result (out.new.items ≡ out.old.items ++ head_bytes (head_of m.now)) }
+    ensures { OnOk result (out.new.items ≡ out.old.items ++ head_bytes First (head_of m.now)) }
 {
     out.extend_from_slice(b"GSM1")?;
     put_u8(out, m.generation)?;
@@ -53,7 +56,7 @@ fn put_head(out: &mut Vec<u8>, m: &Manifest) -> Result<(), AllocError>
 }
 
 fn put_label(out: &mut Vec<u8>, name: &[u8]) -> Result<(), AllocError>
-    requires { length name.now ≤ 64 }
+    requires { length name.now ≤ MOST_LABEL_BYTES }
     ensures { OnOk result (out.new.items ≡ out.old.items ++ label_bytes name.now) }
 {
     out.push(name.len() as u8)?;
@@ -61,7 +64,7 @@ fn put_label(out: &mut Vec<u8>, name: &[u8]) -> Result<(), AllocError>
 }
 
 fn put_labels(out: &mut Vec<u8>, labels: &[Name]) -> Result<(), AllocError>
-    requires { AllByRecursion (λ name. length name ≤ 64) labels.now }
+    requires { AllByRecursion (λ name. length name ≤ MOST_LABEL_BYTES) labels.now }
     ensures { OnOk result (out.new.items ≡ out.old.items ++ flat_map label_bytes labels.now) }
 {
     for name in labels {
@@ -98,12 +101,12 @@ fn put_cells(out: &mut Vec<u8>, cells: &[u64]) -> Result<(), AllocError>
     Ok(())
 }
 
-/// The body's one spelling, without its gate.
+/// The body's one spelling in the newest version, without its gate.
 ///
 /// The longest has 1,117,709 bytes.
 pub fn encode(alloc: Global, m: &Manifest) -> Result<Vec<u8>, AllocError>
     requires { Fits m.now }
-    ensures { IfOk result (λ v. v.items ≡ spelling m.now) }
+    ensures { IfOk result (λ v. v.items ≡ spelling newest_version m.now) }
 {
     let mut out = Vec::new(alloc);
     put_head(&mut out, m)?;

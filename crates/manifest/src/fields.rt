@@ -1,15 +1,26 @@
 ghost use Rattle.std.specs.Prelude.{◌≡◌, ◌≤◌, ◌<◌, ◌+◌, ◌-◌, ◌*◌, ◌==◌, ℕ, List, [], length, nat_lt, if◌then◌else◌, Ok, Err, take, drop};
 ghost use Rattle.byteorder.specs.Endian.{little_number};
 ghost use Rattle.manifest.specs.declared.types.FieldError.{FieldError};
-ghost use Rattle.manifest.specs.Rules.{is_magic, first_magic, at_most};
+ghost use Rattle.manifest.specs.declared.types.Version.TheVariants.{First};
+ghost use Rattle.manifest.specs.Rules as place;
+ghost use Rattle.manifest.specs.Rules.{is_magic, magic_of, at_most};
 ghost use Rattle.manifest.specs.Reading.{Gives, Read, number_at, field_at, head_at, broken};
 
-use crate::types::{Broken, FieldError, Head};
+use crate::types::{Broken, FieldError, Head, Version};
 use byteorder::{ByteOrder, LittleEndian};
 use disk_model::FormKind;
 
-/// The magic of format 1, the bytes `GSM1`.
+/// The magic of the first version, the bytes `GSM1`.
 const FIRST_MAGIC: u32 = 0x314D_5347;
+
+/// Where a version has the number of labels, in bytes from the gate.
+pub fn labels_place(version: Version) -> u64
+    ensures { result ≡ place.labels_place version }
+{
+    match version {
+        Version::First => 34,
+    }
+}
 
 /// The field that begins here breaks its rule.
 pub(crate) fn broken_at(bytes: &[u8], kind: FormKind) -> FieldError
@@ -62,10 +73,10 @@ pub(crate) fn u64_at(bytes: &[u8]) -> Result<(u64, &[u8]), FieldError>
     Ok((LittleEndian::read_u64(bytes), bytes.split_at(8).1))
 }
 
-/// The magic, and the numbers behind it.
+/// The magic of the first version, and the numbers behind it.
 #[tactic(auto, unfolding(crate::specs::Reading::head_at))]
 pub(crate) fn head_of(bytes: &[u8]) -> Result<(Head, &[u8]), FieldError>
-    ensures { Gives (λ x. (x.0, x.1.now)) result (head_at bytes.now) }
+    ensures { Gives (λ x. (x.0, x.1.now)) result (head_at First bytes.now) }
 {
     let (magic, at_generation) = u32_at(bytes)?;
     if magic != FIRST_MAGIC {
@@ -97,6 +108,7 @@ pub(crate) fn head_of(bytes: &[u8]) -> Result<(Head, &[u8]), FieldError>
         vertices,
         grammar_len,
         edges_len,
+        first_len: edges_len,
     };
     Ok((head, rest))
 }

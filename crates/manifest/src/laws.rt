@@ -1,8 +1,10 @@
 ghost use Rattle.std.specs.Prelude.{◌≡◌, ◌<◌, ◌≤◌, ◌++◌, ℕ, List, All, Some, Ok, length, drop, codes};
 ghost use Rattle.byteorder.specs.Endian.{little_bytes};
 ghost use Rattle.manifest.specs.declared.types.Manifest.{Manifest as AManifest};
-ghost use Rattle.manifest.specs.Rules.{first_magic};
-ghost use Rattle.manifest.specs.Spelling.{Fits, spelling, Spells};
+ghost use Rattle.manifest.specs.declared.types.Version.{Version as AVersion};
+ghost use Rattle.manifest.specs.declared.types.Version.TheVariants.{First};
+ghost use Rattle.manifest.specs.Rules.{magic_of, newest_version};
+ghost use Rattle.manifest.specs.Spelling.{Fits, longest, spelling, Spells};
 ghost use Rattle.manifest.specs.Reading.{Answers, reading, manifest_in};
 
 use crate::decoding::decode;
@@ -17,7 +19,7 @@ pub fn encode_then_decode(
     behind: &[u8],
 ) -> Result<(Manifest, usize), ManifestError>
     requires { Fits m.now }
-    ensures { Answers result m.now (length (spelling m.now)) }
+    ensures { Answers result m.now (length (spelling newest_version m.now)) }
 {
     let Ok(mut bytes) = encode(alloc, m) else {
         return Err(ManifestError::NoMemory);
@@ -28,9 +30,9 @@ pub fn encode_then_decode(
     decode(alloc, &bytes)
 }
 
-/// The magic of the format is spelled `GSM1`.
-pub fn magic_is_gsm1()
-    ensures { little_bytes 4 first_magic ≡ codes "GSM1" }
+/// The magic of the first version is spelled `GSM1`.
+pub fn magics_are_spelled()
+    ensures { little_bytes 4 (magic_of First) ≡ codes "GSM1" }
 {}
 
 /// What the bytes begin with is read, whatever stands behind it.
@@ -48,12 +50,12 @@ pub fn has_bytes()
     ensures { (file : List ℕ) (m : AManifest) → manifest_in (drop 1 file) ≡ Some m → 1 < length file }
 {}
 
-/// No two manifests that keep the rules have one spelling.
+/// No two manifests that keep the rules have one spelling in a version.
 pub fn no_shared_spelling()
-    ensures { (m other : AManifest) → Fits m → Fits other → spelling m ≡ spelling other → m ≡ other }
+    ensures { (v : AVersion) (m other : AManifest) → Fits m → Fits other → spelling v m ≡ spelling v other → m ≡ other }
 {}
 
-/// A spelling has at most 1,117,709 bytes.
+/// A spelling has at most `longest` bytes, which are 1,117,709.
 pub fn longest_spelling()
-    ensures { (m : AManifest) → Fits m → length (spelling m) ≤ 1117709 }
+    ensures { (v : AVersion) (m : AManifest) → Fits m → length (spelling v m) ≤ longest }
 {}

@@ -13,12 +13,10 @@ mod types;
 
 pub use decoding::decode;
 pub use encoding::encode;
+pub use fields::labels_place;
 pub use laws::{
-    encode_then_decode, has_bytes, longest_spelling, magic_is_gsm1, no_shared_spelling,
+    encode_then_decode, has_bytes, longest_spelling, magics_are_spelled, no_shared_spelling,
     reading_is_spelling, spelling_is_read,
 };
 pub use prefix_law::more_bytes_change_nothing;
-pub use types::{Manifest, ManifestError, ManifestFault, PartEntry, PartList};
-
-#[cfg(test)]
-mod tests;
+pub use types::{Manifest, ManifestError, ManifestFault, PartEntry, PartList, Version};

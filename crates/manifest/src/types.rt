@@ -90,6 +90,8 @@ pub struct Manifest {
     pub grammar_len: u64,
     /// How many bytes the edge text has.
     pub edges_len: u64,
+    /// How many of these are the first edge file's.
+    pub first_len: u64,
     /// The named labels of both texts, by their numbers.
     pub labels: LabelTable,
     /// The partitions, in the order of their intervals.
@@ -111,6 +113,7 @@ impl Manifest {
             vertices: self.vertices,
             grammar_len: self.grammar_len,
             edges_len: self.edges_len,
+            first_len: self.first_len,
             labels: self.labels.copy()?,
             parts: self.parts.copy()?,
             map: self.map.copy()?,
@@ -139,6 +142,12 @@ pub enum ManifestError {
     NoMemory,
 }
 
+/// The versions of a manifest's body, by their magics. There is one so far.
+#[derive(Clone, Copy, Debug, PartialEq, Eq)]
+pub enum Version {
+    First,
+}
+
 /// The numbers that stand in front of the labels.
 #[derive(Clone, Copy, Debug, PartialEq, Eq)]
 pub(crate) struct Head {
@@ -147,6 +156,7 @@ pub(crate) struct Head {
     pub vertices: u32,
     pub grammar_len: u64,
     pub edges_len: u64,
+    pub first_len: u64,
 }
 
 /// A field that breaks its rule, by the number of bytes from its first one on.

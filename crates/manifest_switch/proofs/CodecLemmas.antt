@@ -6,6 +6,7 @@ use Rattle.disk_model.specs.Disk.{written}
 use Rattle.manifest.specs.declared.types.Manifest.{Manifest}
 use Rattle.manifest.specs.declared.types.ManifestFault.{ManifestFault}
 use Rattle.manifest.specs.Reading.{reading, body_at, front_at, head_at}
+use Rattle.manifest.specs.Rules.{newest_version}
 use Rattle.manifest.specs.Spelling.{Fits, Spells, spelling}
 use Rattle.manifest.specs.Prefix.{IsCut, Settles}
 use Rattle.manifest_switch.specs.Slots.{body, value_of}
@@ -53,8 +54,8 @@ unfolding body
 staged-body file bytes m some says = ap (λ (l : List ℕ). value_of (reading l)) (drop-written file bytes some) ∙ ap value_of (says (drop (1 + length bytes) file))
 
 -- what the codec's law says of bytes that are a spelling
-pub says : (bytes : List ℕ) (m : Manifest) → ((m : Manifest) (bytes : List ℕ) (n : ℕ) → Fits m → Spells bytes m n → reading bytes ≡ Ok (m, n)) → Fits m → bytes ≡ spelling m → Says bytes m
-says bytes m law fits is more = law m (bytes ++ more) (length bytes) fits (omega (arith, length-append bytes more), take-append-le (length bytes) bytes more (omega arith) ∙ take_all (length bytes) bytes (omega arith) ∙ is)
+pub says : (bytes : List ℕ) (m : Manifest) → ((m : Manifest) (bytes : List ℕ) (n : ℕ) → Fits m → Spells bytes m n → reading bytes ≡ Ok (m, n)) → Fits m → bytes ≡ spelling newest_version m → Says bytes m
+says bytes m law fits is more = law m (bytes ++ more) (length bytes) fits (newest_version, omega (arith, length-append bytes more), take-append-le (length bytes) bytes more (omega arith) ∙ take_all (length bytes) bytes (omega arith) ∙ is)
 
 -- ---- the first bytes of a body
 

@@ -14,6 +14,3 @@ pub use law::{current_in_words, current_is_held};
 pub use reading::current;
 pub use slot::{Found, OpenFault, Slot, SwitchFault};
 pub use switching::switch;
-
-#[cfg(test)]
-mod tests;

@@ -8,8 +8,6 @@ mod grammar;
 mod joins;
 mod label_row;
 mod normal;
-#[cfg(test)]
-mod tests;
 
 pub use grammar::{Grammar, is_grammar};
 pub use normal::{Normal, normalise};

@@ -1,7 +1,7 @@
 -- What the calls of a store answer, and why.
 use Rattle.std.specs.Prelude.{◌≡◌, ◌≢◌, ℕ, ◌≤◌, List, take, slice_get, Result, Ok, Err}
 use Rattle.io_edge.specs.declared.kinds.InputFile.{InputFile}
-use Rattle.io_edge.specs.declared.kinds.InputFile.TheVariants.{Grammar, Edges, Source}
+use Rattle.io_edge.specs.declared.kinds.InputFile.TheVariants.{Grammar}
 use Rattle.disk_model.specs.Disk.{Contents, Rose}
 use Rattle.disk_model.specs.declared.form_kind.FormKind.{FormKind}
 use Rattle.manifest.specs.declared.types.Manifest.{Manifest}
@@ -43,13 +43,11 @@ HasCompareCause reads_before reads_now before now fault = HasCompareFault reads_
 -- the file of the copy of a text, and how long the manifest says that it is
 abbrev pub copy_file : InputFile → ℕ
 copy_file Grammar = 2
-copy_file Edges = 3
-copy_file Source = 3
+copy_file _ = 3
 
 abbrev pub copy_len : Manifest → InputFile → ℕ
 copy_len m Grammar = m.grammar_len
-copy_len m Edges = m.edges_len
-copy_len m Source = m.edges_len
+copy_len m _ = m.edges_len
 
 -- the copy: the first bytes of its file, or the whole file where it is shorter
 abbrev pub copy_of : Manifest → InputFile → Contents → List ℕ

@@ -38,7 +38,7 @@ fn copy_place(store: &Store, file: InputFile) -> (u32, u64)
     let manifest = store.manifest();
     match file {
         InputFile::Grammar => (2, manifest.grammar_len),
-        InputFile::Edges | InputFile::Source => (3, manifest.edges_len),
+        _ => (3, manifest.edges_len),
     }
 }
 

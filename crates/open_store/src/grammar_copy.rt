@@ -14,15 +14,12 @@ use crate::fault::StoreFault;
 use disk_model::{Disk, FormKind};
 use grammar_norm::{Grammar, GrammarFault, LabelTable, read_grammar};
 use label_table::Name;
-use manifest::Manifest;
+use manifest::{Manifest, Version, labels_place};
 use manifest_switch::Slot;
 use std::alloc::Global;
 
 /// The file of the copy of the grammar's text.
 pub(crate) const GRAMMAR_FILE: u32 = 2;
-
-/// The place of a manifest's labels, behind the gate and the numbers in front.
-const LABELS_PLACE: u64 = 34;
 
 // The file is shorter than the manifest says.
 fn short(len: u64) -> StoreFault
@@ -104,7 +101,7 @@ pub(crate) fn grammar_of<D: Disk>(
             } else {
                 Err(StoreFault::BadStore {
                     file: slot.file(),
-                    place: LABELS_PLACE,
+                    place: labels_place(Version::First),
                     kind: FormKind::BadLabel,
                 })
             }

@@ -18,6 +18,3 @@ pub use fault::StoreFault;
 pub use opening::{OpenMode, Opened, open};
 pub use store::Store;
 pub use tally::Tally;
-
-#[cfg(test)]
-mod tests;

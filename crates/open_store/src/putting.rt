@@ -3,8 +3,7 @@ ghost use Rattle.std.specs.Prelude.{◌≡◌, ◌≢◌, ◌<◌, ◌≤◌, �
 ghost use Rattle.disk_model.specs.Disk.{Sets};
 ghost use Rattle.disk_model.specs.Crash.{LeavesOnly, From};
 ghost use Rattle.disk_files.specs.Files.{OnlyFile};
-ghost use Rattle.partition_file.specs.declared.types.Format.TheVariants.{First};
-ghost use Rattle.partition_file.specs.Spelling.{spelling};
+ghost use Rattle.partition_file.specs.Spelling.{newest_format, spelling};
 ghost use Rattle.open_store.specs.declared.fault.StoreFault.TheVariants.{NoMemory};
 ghost use Rattle.open_store.specs.Answers.{HasDiskCause, blames_none};
 ghost use Rattle.manifest.specs.declared.types.PartEntry.{PartEntry as APartEntry};
@@ -76,7 +75,7 @@ impl Store {
         requires free { IsFree self.now.manifest file }
         requires within { file < 1024 }
         ensures any_moment { LeavesOnly D.moment D.left_since disk.old disk.new (From (D.may_leave disk.old) (OnlyFile file)) }
-        ensures written { IsTrue D.tells → OnOk result (Sets file (spelling First part.now) (D.seen disk.old) (D.seen disk.new)) }
+        ensures written { IsTrue D.tells → OnOk result (Sets file (spelling newest_format part.now) (D.seen disk.old) (D.seen disk.new)) }
         ensures memory { IsErrOf result NoMemory → disk.new ≡ disk.old }
         ensures later { D.faults disk.old ≤ D.faults disk.new }
         ensures cause { HasDiskCause (D.faults disk.old) (D.faults disk.new) blames_none result }

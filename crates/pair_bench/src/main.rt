@@ -11,9 +11,6 @@ use reading::{GraphText, read_graph};
 use std::{env, io};
 use superstep::{PairEnd, run_pair};
 
-#[cfg(test)]
-mod tests;
-
 fn main(rt: HostRuntime) -> io::Result<()> {
     let alloc = rt.alloc();
     let mut words = Vec::new(alloc);

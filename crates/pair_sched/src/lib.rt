@@ -6,6 +6,3 @@ mod marks;
 
 pub use choice::{is_dirty, least_dirty, pick};
 pub use marks::Marks;
-
-#[cfg(test)]
-mod tests;

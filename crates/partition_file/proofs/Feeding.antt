@@ -1,7 +1,8 @@
 -- One more byte of a field.
-use Rattle.std.proofs.Common.{◌⊎◌, ◌≡◌, ℕ, ◌+◌, ◌<◌, ◌≤◌, List, [], ◌∷◌, ◌++◌, length, take, set, Some, None, refl, sym, ap, ◌∙◌, append_assoc, arith, inl, inr}
+use Rattle.std.proofs.Common.{◌⊎◌, ◌≡◌, ℕ, ◌+◌, ◌-◌, ◌<◌, ◌≤◌, false, List, [], ◌∷◌, ◌++◌, length, take, set, Some, None, refl, sym, ap, ◌∙◌, append_assoc, arith, inl, inr}
 use Rattle.std.proofs.lemmas.Bool.{lt-ltb}
-use Rattle.std.proofs.lemmas.List.{append-nil, take_more_set}
+use Rattle.std.proofs.lemmas.Bool.Decides.{nat_tests}
+use Rattle.std.proofs.lemmas.List.{append-nil, length-take, take_more_set}
 use Rattle.disk_model.specs.declared.form_kind.FormKind.TheVariants.{Short}
 use Rattle.partition_file.specs.declared.types.Expect.{Expect}
 use Rattle.partition_file.specs.declared.types.PartFault.{PartFault}
@@ -12,7 +13,7 @@ use Rattle.partition_file.specs.declared.types.Completed.TheVariants as complete
 use Rattle.partition_file.specs.declared.types.RowStep.{RowStep}
 use Rattle.partition_file.specs.declared.types.RowStep.TheVariants as steps
 use Rattle.partition_file.specs.Reading.{Behind, complete, number, stop, magic_at, low_at, high_at, count_at, label_at, destination_at, birth_at, end_at, magic_then, low_then, high_then, count_then, label_then, destination_then, birth_then}
-use Rattle.partition_file.specs.Stages.{stage_at, width_of, IsNext, IsStage, IsCompleted, completed_at, stage_behind, step_of, behind_row, behind_edge}
+use Rattle.partition_file.specs.Stages.{stage_at, width_of, is_whole, IsField, IsNext, IsStage, IsCompleted, completed_at, stage_behind, step_of, behind_row, behind_edge}
 use Rattle.partition_file.specs.Reader.{Reader, IsOpen, rest_of, Feeds, Gives, Uses}
 
 number_short : (w place : ℕ) (bytes : List ℕ) (next : ℕ → Behind) → length bytes < w → number w place bytes next ≡ stop place Short
@@ -97,6 +98,17 @@ width_at_least (stages.Destination v left before label) = omega arith
 width_at_least (stages.Birth edge left) = omega arith
 width_at_least stages.End = omega arith
 width_at_least (stages.Fault f) = omega arith
+
+-- the bytes of a field are as many as it has
+pub field_len : (s : Stage) (field : List ℕ) → IsField s field → length field ≡ width_of s
+field_len s field is =
+    let t = length-take (length field - 1) field in
+    let w = width_at_least s in
+    grind (arith, nat_tests, is.whole, is.least, t, w)
+
+-- and bytes that aren't whole are fewer
+pub part_short : (s : Stage) (held : List ℕ) → is_whole s held ≡ false → length held < width_of s
+part_short s held e = grind (arith, nat_tests, e)
 
 -- the byte stands behind those that are held
 pub joined : (e : Expect) (s : Stage) (place : ℕ) (buffer : List ℕ) (count byte : ℕ) (more : List ℕ) → count < length buffer → stage_at e s place (take count buffer ++ byte ∷ more) ≡ stage_at e s place (take (count + 1) (set buffer count byte) ++ more)

@@ -1,5 +1,5 @@
 -- A reader of a partition file that comes in pieces.
-use Rattle.std.specs.Prelude.{◌≡◌, ℕ, ◌+◌, ◌<◌, ◌≤◌, List, [], ◌++◌, length, Option, Some, None, ◌⊎◌}
+use Rattle.std.specs.Prelude.{◌≡◌, ℕ, ◌+◌, ◌<◌, ◌≤◌, false, List, [], ◌++◌, length, Option, Some, None, ◌⊎◌}
 use Rattle.graph_words.specs.declared.types.Born.{Born}
 use Rattle.disk_model.specs.declared.form_kind.FormKind.TheVariants.{Short}
 use Rattle.partition_file.specs.declared.types.Expect.{Expect}
@@ -9,7 +9,7 @@ use Rattle.partition_file.specs.declared.types.Stage.TheVariants as stages
 use Rattle.partition_file.specs.declared.types.RowStep.{RowStep}
 use Rattle.partition_file.specs.declared.types.RowStep.TheVariants as steps
 use Rattle.partition_file.specs.Reading.{Found, complete, ends_with, stop, then_found}
-use Rattle.partition_file.specs.Stages.{stage_at, width_of, IsStage}
+use Rattle.partition_file.specs.Stages.{stage_at, is_whole, IsStage}
 
 -- a reader: the field that comes next, its place, and its bytes so far
 pub record Reader : Type 0 where
@@ -22,7 +22,7 @@ pub record Reader : Type 0 where
 pub record IsReader (r : Reader) : Type 0 where
   pub bounds : r.expect.lo < r.expect.hi
   pub stage : IsStage r.expect r.stage
-  pub partial : length r.held < width_of r.stage
+  pub partial : is_whole r.stage r.held ≡ false
 
 -- a reader that was given no byte
 abbrev pub start : Expect → Reader

@@ -7,6 +7,3 @@ mod edge_set;
 mod joins;
 
 pub use closing::closure;
-
-#[cfg(test)]
-mod tests;

@@ -17,6 +17,3 @@ pub use heading::{head, parts};
 pub use laws::{answers_stand_in_their_partition, edges_are_those_listed};
 pub use listing::{answers, dump};
 pub use tallying::tally;
-
-#[cfg(test)]
-mod tests;

@@ -5,18 +5,18 @@ ghost use Rattle.edge_text.specs.Print.{edge_bytes};
 ghost use Rattle.query_text.specs.Text as text;
 
 use arrayvec::ArrayVec;
-use graph_words::Born;
+use graph_words::{Born, MOST_LABEL_BYTES};
 use itoa::Buffer;
 
-/// More than the longest line has: a word, four numbers, a label of 64 bytes, blanks and a line feed.
-const LINE_ROOM: usize = 256;
+/// More than the longest line has: a word, four numbers, a label, blanks and a line feed.
+const LINE_ROOM: usize = 192 + MOST_LABEL_BYTES;
 
 /// One line, with its line feed.
 pub(crate) type Line = ArrayVec<u8, LINE_ROOM>;
 
 /// Adds bytes that fit.
 fn append(line: &mut Line, bytes: &[u8])
-    requires { array_vec_len line.old + length bytes.now ≤ 256 }
+    requires { array_vec_len line.old + length bytes.now ≤ LINE_ROOM }
     ensures items { line.new.items ≡ line.old.items ++ bytes.now }
     ensures len { array_vec_len line.new ≡ array_vec_len line.old + length bytes.now }
 {
@@ -78,7 +78,7 @@ pub(crate) fn unfinished_line(i: usize, j: usize) -> Line
 
 /// The line of a label: its name, and how many edges it has.
 pub(crate) fn label_line(name: &[u8], count: u64) -> Line
-    requires { length name.now ≤ 64 }
+    requires { length name.now ≤ MOST_LABEL_BYTES }
     ensures { result.items ≡ text.label_line name.now count }
 {
     let mut line = ArrayVec::new();
@@ -107,7 +107,7 @@ pub(crate) fn answer_line(born: &Born) -> Line
 
 /// The line of an edge: source, destination and the name of its label.
 pub(crate) fn edge_line(born: &Born, name: &[u8]) -> Line
-    requires { length name.now ≤ 64 }
+    requires { length name.now ≤ MOST_LABEL_BYTES }
     ensures { result.items ≡ edge_bytes born.now.edge.src.0 born.now.edge.dst.0 name.now }
 {
     let mut line = ArrayVec::new();

@@ -17,6 +17,3 @@ pub use in_edges::InEdges;
 pub use rows::Rows;
 pub use sieve::Sieve;
 pub use span::Span;
-
-#[cfg(test)]
-mod tests;

@@ -12,8 +12,7 @@ use Rattle.closing_machine.specs.Machine.{high, low}
 use Rattle.closing_machine.specs.Parts.{all_edges}
 use Rattle.disk_model.specs.Disk.{Contents, Sets}
 use Rattle.intervals.specs.Bounds.{IsCut, low_of, vertices_of}
-use Rattle.partition_file.specs.declared.types.Format.TheVariants.{First}
-use Rattle.partition_file.specs.Spelling.{Fits, Part, spelling}
+use Rattle.partition_file.specs.Spelling.{newest_format, Fits, Part, spelling}
 use Rattle.dest_map.specs.Counts.{IsCountsOf}
 use Rattle.dest_map.specs.Table.{counts_of}
 use Rattle.manifest.specs.declared.types.PartEntry.{PartEntry}
@@ -51,7 +50,7 @@ counted_part s ends i p cut within whole f = λ k d inside.
 
 module _ (s : Source) (ends : List ℕ) (tells : Type 0) (c d : Contents) (i : ℕ) (t u : Tables) (p : Part) (b : IsBuilt s ends tells c i t) (fits : Fits (expect_at s ends i) p) (given : tells → AreGiven (normal_form s.normal) (graph_in s c) (low ends i) (high ends i) p.edges)
     (entries : u.parts ≡ t.parts ++ record { hi = high ends i; file = 4 + i } ∷ []) (counts : (before : List Born) → IsCountsOf ends before t.map → IsCountsOf ends (before ++ p.edges) u.map) (others : (x y : ℕ) → x ≢ i → counts_of u.map x y ≡ counts_of t.map x y)
-    (sets : tells → Sets (4 + i) (spelling First p) c d) where
+    (sets : tells → Sets (4 + i) (spelling newest_format p) c d) where
   pub same_copies : tells → SameTexts c d
   same_copies tell = record { grammar = (sets tell).others 2 (omega arith); edges = (sets tell).others 3 (omega arith) }
 
@@ -69,7 +68,7 @@ module _ (s : Source) (ends : List ℕ) (tells : Type 0) (c d : Contents) (i : �
   put_here : tells → IsPut s ends d i p.edges
   put_here tell =
       record {
-        spelled = (sets tell).here ∙ ap (spelling First) (is_part_at s ends i p fits);
+        spelled = (sets tell).here ∙ ap (spelling newest_format) (is_part_at s ends i p fits);
         given = subst (λ (g : Graph). AreGiven (normal_form s.normal) g (low ends i) (high ends i) p.edges) (sym (same_graph tell)) (given tell);
       }
 

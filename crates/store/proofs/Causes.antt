@@ -19,7 +19,7 @@ use Rattle.store.specs.Import.{HasImportCause}
 use Rattle.store.specs.Making.{blames_copy, of_text}
 
 -- a copy that was not made
-pub text_cause : (grammar : List ℕ) (told : Option (List ℕ)) (tells : Type 0) (reads reads' calls mid calls' : ℕ) (f : TextFault) → calls ≤ mid → ((line : ℕ) (kind : InputKind) → f ≡ texts.Text line kind → (text : List ℕ) → told ≡ Some text → edges_fault (grammar_names grammar) text ≡ Some (record { line = line; kind = kind })) → HasCauseIn reads reads' mid calls' f → HasImportCause grammar told tells reads reads' calls calls' (of_text f)
+pub text_cause : (grammar : List ℕ) (told : Option (List ℕ)) (tells : Type 0) (reads reads' calls mid calls' : ℕ) (f : TextFault) → calls ≤ mid → ((line : ℕ) (kind : InputKind) → f ≡ texts.Text line kind → (text : List ℕ) → told ≡ Some text → edges_fault 0 (grammar_names grammar) text ≡ Some (record { line = line; kind = kind })) → HasCauseIn reads reads' mid calls' f → HasImportCause grammar told tells reads reads' calls calls' (of_text f)
 text_cause grammar told tells reads reads' calls mid calls' texts.ReadFault le first cause = cause
 text_cause grammar told tells reads reads' calls mid calls' texts.DiskFault le first cause = omega (arith, le, cause)
 text_cause grammar told tells reads reads' calls mid calls' (texts.Text line kind) le first cause = first line kind refl

@@ -118,6 +118,7 @@ module _ (s : Source) (ends : List ℕ) (tells : Type 0) (c : Contents) (t : Tab
             vertices = omega (arith, first.vertices, small);
             grammar_len = omega (arith, first.grammar_len, short);
             edges_len = omega (arith, first.edges_len, long);
+            first_len = first.first_len ∙ sym first.edges_len;
             labels = first.table;
             few = omega (arith, sizes, few);
             cover = rw (first.parts, first.vertices) (cover_is ends t.parts b.size his_are cut s.copied.vertices whole);

@@ -21,8 +21,7 @@ use Rattle.closing_machine.specs.Tells.{Tells}
 use Rattle.disk_model.specs.Disk.{Contents}
 use Rattle.intervals.specs.Bounds.{IsCut, vertices_of}
 use Rattle.intervals.specs.DegreeCut.{IsCutByDegree}
-use Rattle.partition_file.specs.declared.types.Format.TheVariants.{First}
-use Rattle.partition_file.specs.Spelling.{Fits as PartFits}
+use Rattle.partition_file.specs.Spelling.{Fits as PartFits, newest_format}
 use Rattle.dest_map.specs.Table.{counts_of}
 use Rattle.pair_sched.specs.Marks.{joined_of, newest_of}
 use Rattle.manifest.specs.declared.types.PartEntry.{PartEntry}
@@ -120,7 +119,7 @@ module _ (grammar : List ℕ) (told : Option (List ℕ)) (tells : Type 0) (c : C
             size = b.made ∙ sym sizes;
             spells = λ i low.
                 let within : i < length ends = omega (arith, low, sizes) in
-                rw (ends_in, file_at i within) (First, (b.put tell i within).spelled);
+                rw (ends_in, file_at i within) (newest_format, (b.put tell i within).spelled);
             fits = λ i low.
                 let within : i < length ends = omega (arith, low, sizes) in
                 subst (λ (n : Normal). PartFits (expect_of m n.fresh i) (part_of m i (get_or b.parts i []))) normal_is (rw (ends_in, first.vertices, first.round, first.labels) (b.fits i within));

@@ -57,10 +57,10 @@ module _ (grammar : List ℕ) (told : Option (List ℕ)) (tells : Type 0) (c : C
   vertices_are : s.copied.vertices ≡ vertex_count_of src.edges
   vertices_are = sym src.few.each ∙ src.degrees_are.count
 
-  good_copy : ((names : List (List ℕ)) (text : List ℕ) (edges : List Edge) (labels : List (List ℕ)) → ReadsEdges names text edges labels → IsGoodCopy labels (length text) (vertex_count_of edges) text) → tells → IsGoodCopy s.copied.labels s.copied.len s.copied.vertices (c 3)
+  good_copy : ((names : List (List ℕ)) (text : List ℕ) (edges : List Edge) (labels : List (List ℕ)) → ReadsEdges 0 names text edges labels → IsGoodCopy labels (length text) (vertex_count_of edges) text) → tells → IsGoodCopy s.copied.labels s.copied.len s.copied.vertices (c 3)
   good_copy law tell = rw (src.len_is, vertices_are, src.edges_copy tell) (law (grammar_names grammar) src.text src.edges s.copied.labels src.reads)
 
-  pub may_put : ((names : List (List ℕ)) (text : List ℕ) (edges : List Edge) (labels : List (List ℕ)) → ReadsEdges names text edges labels → IsGoodCopy labels (length text) (vertex_count_of edges) text) → (limit : ℕ) (ends : List ℕ) → IsCutByDegree s.copied.degrees.items limit ends → MayPut s ends tells c
+  pub may_put : ((names : List (List ℕ)) (text : List ℕ) (edges : List Edge) (labels : List (List ℕ)) → ReadsEdges 0 names text edges labels → IsGoodCopy labels (length text) (vertex_count_of edges) text) → (limit : ℕ) (ends : List ℕ) → IsCutByDegree s.copied.degrees.items limit ends → MayPut s ends tells c
   may_put law limit ends by_degree =
       let longer = length-grown src.names s.copied.labels grown in
       record {

@@ -1,7 +1,7 @@
 -- What an import answers, and what a crash during one leaves.
-use Rattle.std.specs.Prelude.{◌≡◌, ◌⊎◌, ℕ, List, length, Option, Some, Ok}
+use Rattle.std.specs.Prelude.{◌≡◌, ◌⊎◌, ℕ, List, [], ◌∷◌, length, Option, Some, Ok}
 use Rattle.graph_words.specs.declared.types.Born.{Born}
-use Rattle.io_edge.specs.declared.kinds.InputFile.TheVariants.{Edges, Grammar, Source}
+use Rattle.io_edge.specs.declared.kinds.InputFile.TheVariants.{Edges}
 use Rattle.io_edge.specs.Devices.{Rose}
 use Rattle.edge_text.specs.EdgesText.{edges_fault}
 use Rattle.grammar_norm.specs.GrammarText.{ReadsGrammar, grammar_names}
@@ -20,7 +20,7 @@ use Rattle.open_store.specs.Store.{IsOpenStore, OpenStore}
 
 -- two texts as those of a store
 abbrev pub texts_of : List ℕ → List ℕ → Texts
-texts_of grammar edges = record { grammar = grammar; edges = edges }
+texts_of grammar edges = record { grammar = grammar; files = edges ∷ [] }
 
 -- The store is in slot 0, keeps its rules, and has the rules of the grammar. Its manifest is one of the grammar and a text without a fault, which is the inputs' file where that is told.
 pub record IsNewStore (grammar : List ℕ) (told : Option (List ℕ)) (s : OpenStore) : Type 0 where
@@ -61,9 +61,8 @@ Imports grammar told limit old new = (current_of new ≡ current_of old) ⊎ Has
 abbrev pub HasImportCause : List ℕ → Option (List ℕ) → Type 0 → ℕ → ℕ → ℕ → ℕ → StoreFault → Type 0
 HasImportCause grammar told tells reads reads' calls calls' ReadFault = Rose reads reads'
 HasImportCause grammar told tells reads reads' calls calls' DiskFault = DiskRose calls calls'
-HasImportCause grammar told tells reads reads' calls calls' (InputFault Edges line kind) = (text : List ℕ) → told ≡ Some text → edges_fault (grammar_names grammar) text ≡ Some (record { line = line; kind = kind })
-HasImportCause grammar told tells reads reads' calls calls' (InputFault Grammar line kind) = ⊥
-HasImportCause grammar told tells reads reads' calls calls' (InputFault Source line kind) = ⊥
+HasImportCause grammar told tells reads reads' calls calls' (InputFault Edges line kind) = (text : List ℕ) → told ≡ Some text → edges_fault 0 (grammar_names grammar) text ≡ Some (record { line = line; kind = kind })
+HasImportCause grammar told tells reads reads' calls calls' (InputFault _ line kind) = ⊥
 HasImportCause grammar told tells reads reads' calls calls' (OtherInput file place) = ⊥
 HasImportCause grammar told tells reads reads' calls calls' (BadStore file place kind) = (file ≡ 3) × (place ≡ 0) × (kind ≡ BadText) × (tells → ⊥)
 HasImportCause grammar told tells reads reads' calls calls' NoMemory = Unit {0}

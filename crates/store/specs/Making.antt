@@ -10,8 +10,7 @@ use Rattle.closing_machine.specs.Machine.{high, low}
 use Rattle.closing_machine.specs.Parts.{all_edges}
 use Rattle.disk_model.specs.Disk.{Contents}
 use Rattle.intervals.specs.Bounds.{IsCut, LiesIn, vertices_of}
-use Rattle.partition_file.specs.declared.types.Format.TheVariants.{First}
-use Rattle.partition_file.specs.Spelling.{Fits, Part, spelling}
+use Rattle.partition_file.specs.Spelling.{newest_format, Fits, Part, spelling}
 use Rattle.dest_map.specs.Counts.{IsCountsOf}
 use Rattle.dest_map.specs.Table.{counts_of}
 use Rattle.import_text.specs.declared.fault.TextFault.{TextFault}
@@ -58,7 +57,7 @@ pub record IsSource (grammar : List ℕ) (told : Option (List ℕ)) (tells : Typ
   pub grammar_len : s.grammar_len ≡ length grammar
   pub text : List ℕ
   pub edges : List Edge
-  pub reads : ReadsEdges (grammar_names grammar) text edges s.copied.labels
+  pub reads : ReadsEdges 0 (grammar_names grammar) text edges s.copied.labels
   pub is_file : (file : List ℕ) → told ≡ Some file → text ≡ file
   pub len_is : s.copied.len ≡ length text
   pub degrees_are : AreDegrees edges s.copied.degrees.items
@@ -98,7 +97,7 @@ graph_in s c = graph_with s.copied.vertices (edges_of s.copied.labels (c 3))
 
 -- the file of partition i spells these edges, and they are just the given ones of the interval
 pub record IsPut (s : Source) (ends : List ℕ) (c : Contents) (i : ℕ) (edges : List Born) : Type 0 where
-  pub spelled : c (4 + i) ≡ spelling First (part_at ends i edges)
+  pub spelled : c (4 + i) ≡ spelling newest_format (part_at ends i edges)
   pub given : AreGiven (normal_form s.normal) (graph_in s c) (low ends i) (high ends i) edges
 
 -- The first i partitions were made and put: the tables list them with their files and tell their counts, and have no count for the others yet.
@@ -120,6 +119,7 @@ pub record IsFirst (s : Source) (t : Tables) (m : Manifest) : Type 0 where
   pub vertices : m.vertices ≡ s.copied.vertices
   pub grammar_len : m.grammar_len ≡ s.grammar_len
   pub edges_len : m.edges_len ≡ s.copied.len
+  pub first_len : m.first_len ≡ s.copied.len
   pub labels : m.labels ≡ s.copied.labels
   pub table : IsTable m.labels
   pub parts : m.parts ≡ t.parts

@@ -10,6 +10,3 @@ mod tables;
 
 pub use importing::import;
 pub use open_store::{OpenMode, Opened, Store, StoreFault, open, same_input};
-
-#[cfg(test)]
-mod tests;

@@ -37,6 +37,7 @@ fn first_manifest(alloc: Global, source: &Source, tables: Tables) -> Result<Mani
         vertices: source.copied.vertices,
         grammar_len: source.grammar_len,
         edges_len: source.copied.len,
+        first_len: source.copied.len,
         labels: source.copied.labels.copy()?,
         parts: tables.parts,
         map: tables.map,

@@ -1,5 +1,5 @@
 -- What a store is made of, and which files may change.
-use Rattle.std.proofs.Common.{◌≡◌, ◌≢◌, inl, inr, ℕ, ◌<◌, ◌≤◌, List, [], length, sym, ◌∙◌, ap, subst, arith}
+use Rattle.std.proofs.Common.{◌≡◌, ◌≢◌, inl, inr, ℕ, ◌<◌, ◌≤◌, List, [], length, take, sym, ◌∙◌, ap, subst, arith}
 use Rattle.std.specs.Prelude.{slice_index_or, Ok}
 use Rattle.std.proofs.lemmas.List.{get_or-map}
 use Rattle.graph_words.specs.declared.types.Born.{Born}
@@ -16,12 +16,12 @@ use Rattle.manifest_switch.specs.Slots.{IsBlank, open_body, chosen, current_of}
 use Rattle.manifest_switch.specs.Steps.{IsMade, Keeps, Stays, Switches}
 use Rattle.manifest_switch.proofs.LawLemmas.{blank_iff}
 use Rattle.manifest_switch.proofs.SlotLemmas.{keeps_stays}
-use Rattle.store_law.specs.Texts.{Texts, graph, normal}
+use Rattle.store_law.specs.Texts.{Texts, graph, normal, edges_text}
 use Rattle.store_law.specs.Listed.{AreListed, part_file, part_of}
 use Rattle.store_law.specs.Left.{IsCopy, IsLeft, IsOfTexts, IsStore, IsStoreOf}
 use Rattle.store_law.specs.Imported.{IsFresh, IsImported}
 use Rattle.disk_files.specs.Files.{OnlyFile}
-use Rattle.store_law.specs.Steps.{IsFree}
+use Rattle.store_law.specs.Steps.{IsFree, KeepsCopies, KeepsFiles}
 use Rattle.store_law.proofs.Named.{task_of_texts}
 
 pub fresh_holds : (t : Texts) (limit : ℕ) (c : Contents) (m : Manifest) (parts : List (List Born)) → IsFresh t limit c m parts → IsStoreOf t c m parts
@@ -39,63 +39,85 @@ imported_store t limit c m parts i = record { slot = Zero; current = i.current; 
 
 -- ---- the files that a store reads
 
-no_entry : PartEntry
+pub no_entry : PartEntry
 no_entry = record { hi = 0; file = 0 }
 
 -- the file of a partition is its entry's
-entry_file : (m : Manifest) (i : ℕ) → i < length m.parts → part_file m i ≡ (slice_index_or m.parts i no_entry).file
+pub entry_file : (m : Manifest) (i : ℕ) → i < length m.parts → part_file m i ≡ (slice_index_or m.parts i no_entry).file
 entry_file m i lt = get_or-map (λ (p : PartEntry). p.file) m.parts i no_entry 0 lt
 
-file_above : (m : Manifest) (i : ℕ) → i < length m.parts → Fits m → 4 ≤ part_file m i
+pub file_above : (m : Manifest) (i : ℕ) → i < length m.parts → Fits m → 4 ≤ part_file m i
 file_above m i lt fits = let from = (fits.files i no_entry lt).0 in omega (arith, from, entry_file m i lt)
 
-file_apart : (m : Manifest) (f i : ℕ) → i < length m.parts → IsFree m f → part_file m i ≢ f
+pub file_apart : (m : Manifest) (f i : ℕ) → i < length m.parts → IsFree m f → part_file m i ≢ f
 file_apart m f i lt free same = free.unnamed i no_entry lt (sym (entry_file m i lt) ∙ same)
 
+-- ---- files that are as they were
+
+-- the copies are all that the texts are compared with
+pub texts_kept : (t : Texts) (d c : Contents) (m : Manifest) → KeepsCopies m d c → IsOfTexts t d m → IsOfTexts t c m
+texts_kept t d c m keeps s =
+    record {
+      good = s.good;
+      fits = s.fits;
+      grammar_copy = record { bytes = keeps.grammar ∙ s.grammar_copy.bytes; all = s.grammar_copy.all };
+      edges_copy = record { bytes = keeps.edges ∙ s.edges_copy.bytes; all = s.edges_copy.all };
+      labels = s.labels;
+      vertices = s.vertices;
+    }
+
+-- and the partitions all that edges are read from
+pub listed_kept : (d c : Contents) (m : Manifest) (fresh : ℕ) (parts : List (List Born)) → KeepsFiles m d c → AreListed d m fresh parts → AreListed c m fresh parts
+listed_kept d c m fresh parts keeps s =
+    record {
+      size = s.size;
+      spells = λ i lt. subst (λ (l : List ℕ). Spells l (part_of m i (slice_index_or parts i []))) (sym (keeps.parts i lt)) (s.spells i lt);
+      fits = s.fits;
+    }
+
+pub files_kept : (t : Texts) (d c : Contents) (m : Manifest) (parts : List (List Born)) → KeepsFiles m d c → IsStoreOf t d m parts → IsStoreOf t c m parts
+files_kept t d c m parts keeps s =
+    record { texts = texts_kept t d c m keeps.copies s.texts; listed = listed_kept d c m (normal t).fresh parts keeps s.listed; holds = s.holds; tells = s.tells }
+
+pub store_kept : (t : Texts) (d c : Contents) (m : Manifest) (parts : List (List Born)) → current_of c ≡ current_of d → KeepsFiles m d c → IsStore t d m parts → IsStore t c m parts
+store_kept t d c m parts same keeps s = record { slot = s.slot; current = same ∙ s.current; rest = files_kept t d c m parts keeps s.rest }
+
+-- whole files that are as they were
+pub keeps_copies : (m : Manifest) (d c : Contents) → c 2 ≡ d 2 → c 3 ≡ d 3 → KeepsCopies m d c
+keeps_copies m d c grammar edges = record { grammar = ap (take m.grammar_len) grammar; edges = ap (take m.edges_len) edges }
+
+-- files that are as in contents that are as others
+pub kept_since : (m : Manifest) (b d c : Contents) → ((f : ℕ) → d f ≡ b f) → KeepsFiles m d c → KeepsFiles m b c
+kept_since m b d c same keeps =
+    record {
+      copies = record { grammar = keeps.copies.grammar ∙ ap (take m.grammar_len) (same 2); edges = keeps.copies.edges ∙ ap (take m.edges_len) (same 3) };
+      parts = λ i lt. keeps.parts i lt ∙ same (part_file m i);
+    }
+
 module _ (t : Texts) (d c : Contents) (m : Manifest) (parts : List (List Born)) where
-  -- the copies are all that the texts are compared with
-  same_texts : c 2 ≡ d 2 → c 3 ≡ d 3 → IsOfTexts t d m → IsOfTexts t c m
-  same_texts grammar edges s =
-      record {
-        good = s.good;
-        fits = s.fits;
-        grammar_copy = subst (λ (l : List ℕ). IsCopy t.grammar l m.grammar_len) (sym grammar) s.grammar_copy;
-        edges_copy = subst (λ (l : List ℕ). IsCopy t.edges l m.edges_len) (sym edges) s.edges_copy;
-        labels = s.labels;
-        vertices = s.vertices;
-      }
-
-  -- and the partitions all that edges are read from
-  same_listed : (fresh : ℕ) → ((i : ℕ) → i < length m.parts → c (part_file m i) ≡ d (part_file m i)) → AreListed d m fresh parts → AreListed c m fresh parts
-  same_listed fresh files s =
-      record {
-        size = s.size;
-        spells = λ i lt. subst (λ (l : List ℕ). Spells l (part_of m i (slice_index_or parts i []))) (sym (files i lt)) (s.spells i lt);
-        fits = s.fits;
-      }
-
-  same_files : c 2 ≡ d 2 → c 3 ≡ d 3 → ((i : ℕ) → i < length m.parts → c (part_file m i) ≡ d (part_file m i)) → IsStoreOf t d m parts → IsStoreOf t c m parts
-  same_files grammar edges files s = record { texts = same_texts grammar edges s.texts; listed = same_listed (normal t).fresh files s.listed; holds = s.holds; tells = s.tells }
-
   abbrev IsBeside : Type 0
   IsBeside = (f : ℕ) → f ≢ 0 → f ≢ 1 → c f ≡ d f
 
-  parts_beside : IsBeside → Fits m → (i : ℕ) → i < length m.parts → c (part_file m i) ≡ d (part_file m i)
-  parts_beside others fits i lt = let high = file_above m i lt fits in others (part_file m i) (omega (arith, high)) (omega (arith, high))
+  keeps_beside : IsBeside → Fits m → KeepsFiles m d c
+  keeps_beside others fits =
+      record {
+        copies = keeps_copies m d c (others 2 (omega arith) (omega arith)) (others 3 (omega arith) (omega arith));
+        parts = λ i lt. let high = file_above m i lt fits in others (part_file m i) (omega (arith, high)) (omega (arith, high));
+      }
 
   pub beside_slots : IsBeside → IsStoreOf t d m parts → IsStoreOf t c m parts
-  beside_slots others s = same_files (others 2 (omega arith) (omega arith)) (others 3 (omega arith) (omega arith)) (parts_beside others s.texts.fits) s
+  beside_slots others s = files_kept t d c m parts (keeps_beside others s.texts.fits) s
 
   -- a fresh store, whatever the slots hold
   pub fresh_beside : (limit : ℕ) → IsFresh t limit d m parts → IsBeside → IsFresh t limit c m parts
   fresh_beside limit s others =
       record {
         first = s.first;
-        texts = same_texts (others 2 (omega arith) (omega arith)) (others 3 (omega arith) (omega arith)) s.texts;
+        texts = texts_kept t d c m (keeps_beside others s.texts.fits).copies s.texts;
         degrees = s.degrees;
         counted = s.counted;
         intervals = s.intervals;
-        listed = same_listed (normal t).fresh (parts_beside others s.texts.fits) s.listed;
+        listed = listed_kept d c m (normal t).fresh parts (keeps_beside others s.texts.fits) s.listed;
         opening = s.opening;
         tells = s.tells;
       }
@@ -106,7 +128,12 @@ module _ (t : Texts) (d c : Contents) (m : Manifest) (parts : List (List Born)) 
 
   pub free_file : (f : ℕ) → IsFree m f → OnlyFile f d c → IsStoreOf t d m parts → IsStoreOf t c m parts
   free_file f free only s =
-      same_files (only.others 2 (omega (arith, free.above))) (only.others 3 (omega (arith, free.above))) (λ i lt. only.others (part_file m i) (file_apart m f i lt free)) s
+      files_kept t d c m parts
+      (record {
+        copies = keeps_copies m d c (only.others 2 (omega (arith, free.above))) (only.others 3 (omega (arith, free.above)));
+        parts = λ i lt. only.others (part_file m i) (file_apart m f i lt free);
+      })
+      s
 
 -- ---- a switch
 

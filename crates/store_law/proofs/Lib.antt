@@ -5,3 +5,4 @@ pub mod Keeping
 pub mod Named
 pub mod Telling
 pub mod Times
+pub mod Joined

@@ -17,7 +17,7 @@ use Rattle.grammar_norm.specs.GrammarText.{label_of, rule_of_words}
 use Rattle.normal_law.specs.Closure.{HasNamedLabels, IsNamed}
 use Rattle.normal_law.proofs.Chains.{IsNormalForm-normal_form}
 use Rattle.closing_machine.specs.Holds.{IsTask}
-use Rattle.store_law.specs.Texts.{Texts, graph, names_of, normal, rules}
+use Rattle.store_law.specs.Texts.{Texts, graph, names_of, normal, rules, edges_text}
 
 -- a name among others has a number below how many there are
 place_below : (x : List ℕ) (names : List (List ℕ)) → list_any (λ z. same_name z x) names ≡ true → place_of names x < length names
@@ -83,12 +83,12 @@ task_of_texts t few =
     record {
       normal = IsNormalForm-normal_form (rules t) named;
       named = named;
-      graph = IsGraph-with_count (edges_of (names_of t) t.edges);
-      labels = edges_named all (said (lines t.edges)) few (λ w m. Contains-append_right (flat_map (λ ws. ws) (said (lines t.grammar))) (flat_map third (said (lines t.edges))) w m);
+      graph = IsGraph-with_count (edges_of (names_of t) (edges_text t));
+      labels = edges_named all (said (lines (edges_text t))) few (λ w m. Contains-append_right (flat_map (λ ws. ws) (said (lines t.grammar))) (flat_map third (said (lines (edges_text t)))) w m);
     }
   where
     all : List (List ℕ)
-    all = flat_map (λ ws. ws) (said (lines t.grammar)) ++ flat_map third (said (lines t.edges))
+    all = flat_map (λ ws. ws) (said (lines t.grammar)) ++ flat_map third (said (lines (edges_text t)))
 
     named : HasNamedLabels (rules t)
-    named = rules_named all (said (lines t.grammar)) few (λ w m. Contains-append_left (flat_map (λ ws. ws) (said (lines t.grammar))) (flat_map third (said (lines t.edges))) w m)
+    named = rules_named all (said (lines t.grammar)) few (λ w m. Contains-append_left (flat_map (λ ws. ws) (said (lines t.grammar))) (flat_map third (said (lines (edges_text t)))) w m)

@@ -12,7 +12,7 @@ use Rattle.manifest.specs.Spelling.{Fits}
 use Rattle.manifest_switch.specs.declared.slot.Slot.{Slot}
 use Rattle.manifest_switch.specs.declared.slot.Found.TheVariants.{At}
 use Rattle.manifest_switch.specs.Slots.{IsBlank, current_of}
-use Rattle.store_law.specs.Texts.{AreGood, Texts, graph, names_of, normal}
+use Rattle.store_law.specs.Texts.{AreGood, Texts, edges_text, graph, names_of, normal}
 use Rattle.store_law.specs.Listed.{AreListed, state_in}
 
 -- the first so many bytes of a file are the text
@@ -27,7 +27,7 @@ pub record IsOfTexts (t : Texts) (c : Contents) (m : Manifest) : Type 0 where
   pub fits : Fits m
   -- the copies are the texts, so that a run that goes on can compare them
   pub grammar_copy : IsCopy t.grammar (c 2) m.grammar_len
-  pub edges_copy : IsCopy t.edges (c 3) m.edges_len
+  pub edges_copy : IsCopy (edges_text t) (c 3) m.edges_len
   -- labels and vertices are those of the texts
   pub labels : m.labels ≡ names_of t
   pub vertices : m.vertices ≡ (graph t).vertices

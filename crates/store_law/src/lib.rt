@@ -1,7 +1,8 @@
 //! What the contents of a disk list, when they list exactly the closure of two texts, and what stopped runs may leave.
 #![tactic(auto)]
 
-ghost use Rattle.std.specs.Prelude.{◌≡◌, ◌≢◌, ◌≤◌, List, ℕ, Ok};
+ghost use Rattle.std.specs.Prelude.{◌≡◌, ◌≢◌, ◌≤◌, ◌↔◌, ◌∷◌, [], List, ℕ, Ok, None, codes};
+ghost use Rattle.edge_text.specs.EdgesText.{edges_fault};
 ghost use Rattle.graph_words.specs.declared.types.Born.{Born as ABorn};
 ghost use Rattle.closing_machine.specs.State.{IsCut};
 ghost use Rattle.closing_machine.specs.Parts.{ArePartitions};
@@ -13,12 +14,12 @@ ghost use Rattle.manifest_switch.specs.declared.slot.Slot.TheVariants.{Zero};
 ghost use Rattle.manifest_switch.specs.declared.slot.Found.TheVariants.{At};
 ghost use Rattle.manifest_switch.specs.Slots.{IsBlank, current_of};
 ghost use Rattle.manifest_switch.specs.Steps.{IsMade, Keeps, Stays, Switches};
-ghost use Rattle.store_law.specs.Texts.{Texts};
+ghost use Rattle.store_law.specs.Texts.{AreGoodInTurn, Texts, joined_text};
 ghost use Rattle.store_law.specs.Listed.{AreExact, AreListed, ends_of};
-ghost use Rattle.store_law.specs.Left.{IsDone, IsLeft, IsStore, IsStoreOf};
+ghost use Rattle.store_law.specs.Left.{IsDone, IsLeft, IsOfTexts, IsStore, IsStoreOf};
 ghost use Rattle.store_law.specs.Imported.{IsFresh, IsImported};
 ghost use Rattle.disk_files.specs.Files.{OnlyFile};
-ghost use Rattle.store_law.specs.Steps.{IsFree};
+ghost use Rattle.store_law.specs.Steps.{IsFree, KeepsCopies, KeepsFiles};
 
 /// The partitions that a manifest lists are partitions of its intervals, which cut the vertices.
 pub fn listed_are_partitions()
@@ -64,6 +65,28 @@ pub fn a_switch_leaves_a_store()
     ensures stays { (t : Texts) (d c : Contents) → Stays d c → IsLeft t d → IsLeft t c }
     ensures made { (t : Texts) (seen c : Contents) (m : AManifest) (parts : List (List ABorn)) → IsStoreOf t seen m parts → IsMade seen m c → IsStore t c m parts }
     ensures step { (t : Texts) (d seen c : Contents) (m : AManifest) (parts : List (List ABorn)) → IsLeft t d → IsStoreOf t seen m parts → Switches seen m d c → IsLeft t c }
+{}
+
+/// Texts without a fault, each counted behind those before it, are a joined text without one, and the other way round.
+pub fn joined_texts_are_good_in_turn()
+    ensures { (names : List (List ℕ)) (files : List (List ℕ)) → AreGoodInTurn names files ↔ (edges_fault 0 names (joined_text files) ≡ None) }
+{}
+
+/// A next text that isn't empty begins a line of its own, and an empty one changes nothing.
+pub fn next_texts_begin_a_line()
+    ensures first_empty { joined_text (codes "" ∷ codes "0 1 a" ∷ []) ≡ codes "0 1 a" }
+    ensures next_empty { joined_text (codes "0 1 a" ∷ codes "" ∷ []) ≡ codes "0 1 a" }
+    ensures ended { joined_text (codes "0 1 a\n" ∷ codes "1 2 b" ∷ []) ≡ codes "0 1 a\n1 2 b" }
+    ensures not_ended { joined_text (codes "0 1 a" ∷ codes "1 2 b\n" ∷ []) ≡ codes "0 1 a\n1 2 b\n" }
+    ensures lone_return { joined_text (codes "0 1 a\r" ∷ codes "1 2 b" ∷ []) ≡ codes "0 1 a\r\n1 2 b" }
+{}
+
+/// Contents whose copies, as far as the manifest says, and whose partition files are as they were are the same store.
+pub fn kept_files_keep_a_store()
+    ensures texts { (t : Texts) (d c : Contents) (m : AManifest) → KeepsCopies m d c → IsOfTexts t d m → IsOfTexts t c m }
+    ensures listed { (d c : Contents) (m : AManifest) (fresh : ℕ) (parts : List (List ABorn)) → KeepsFiles m d c → AreListed d m fresh parts → AreListed c m fresh parts }
+    ensures rest { (t : Texts) (d c : Contents) (m : AManifest) (parts : List (List ABorn)) → KeepsFiles m d c → IsStoreOf t d m parts → IsStoreOf t c m parts }
+    ensures store { (t : Texts) (d c : Contents) (m : AManifest) (parts : List (List ABorn)) → current_of c ≡ current_of d → KeepsFiles m d c → IsStore t d m parts → IsStore t c m parts }
 {}
 
 /// A file that the current manifest doesn't name may change, and any but a slot where no slot is open.

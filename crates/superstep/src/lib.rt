@@ -74,6 +74,3 @@ pub fn run_pair(
         next += 1;
     }
 }
-
-#[cfg(test)]
-mod tests;

@@ -1,5 +1,5 @@
-use Rattle.closer.proofs.LawLemmas.{left_further, store_kept}
+use Rattle.closer.proofs.LawLemmas.{left_further, retains_store}
 use Rattle.closer.proofs.laws.stops_leave_a_store.Goals as goal
 
 pub returns : goal.returns
-returns c = record { kept = store_kept; further = left_further }
+returns c = record { kept = retains_store; further = left_further }

@@ -1,4 +1,5 @@
 use Rattle.std.proofs.Common.{◌∙◌, ap, sym, refl, get_or, List, ℕ}
+use Rattle.closer.proofs.SameTexts.{same_here}
 use Rattle.closer.proofs.putting.with_part.Goals as goal
 
 pub returns : goal.returns
@@ -8,10 +9,7 @@ returns c =
     record {
       generation = refl;
       round_is = refl;
-      vertices = refl;
-      grammar_len = refl;
-      edges_len = refl;
-      labels = refl;
+      same = same_here _;
       refiles = c.in_ok-next.ensures;
       map_size = row.size;
       map_rows = row.rows;

@@ -32,12 +32,12 @@ commit-requires-clause-generation g c =
 pub commit-requires-clause-grammar : goal.commit-requires-clause-grammar
 commit-requires-clause-grammar g c =
     let D = g.D.Disk in
-    (outcome c.args.store D.tells (D.seen c.args.disk.now) (D.seen c.close_pair.new.disk) c.in-Some.i c.in-Some.j c.in_ok-next.next c.manifest-manifest.ensures.store c.in_ok-next.ensures.next).turns.grammar_len
+    (outcome c.args.store D.tells (D.seen c.args.disk.now) (D.seen c.close_pair.new.disk) c.in-Some.i c.in-Some.j c.in_ok-next.next c.manifest-manifest.ensures.store c.in_ok-next.ensures.next).turns.same.grammar_len
 
 pub commit-requires-clause-labels : goal.commit-requires-clause-labels
 commit-requires-clause-labels g c =
     let D = g.D.Disk in
-    labels_begin c.args.store.manifest c.in_ok-next.next (outcome c.args.store D.tells (D.seen c.args.disk.now) (D.seen c.close_pair.new.disk) c.in-Some.i c.in-Some.j c.in_ok-next.next c.manifest-manifest.ensures.store c.in_ok-next.ensures.next).turns.labels
+    labels_begin c.args.store.manifest c.in_ok-next.next (outcome c.args.store D.tells (D.seen c.args.disk.now) (D.seen c.close_pair.new.disk) c.in-Some.i c.in-Some.j c.in_ok-next.next c.manifest-manifest.ensures.store c.in_ok-next.ensures.next).turns.same.labels
 
 pub returns-clause-again : goal.returns-clause-again
 returns-clause-again g c =

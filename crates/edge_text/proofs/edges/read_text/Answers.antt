@@ -35,7 +35,7 @@ loop-edges-preserved g c =
         c.loop-edges.invariant.reads.0 ++ take c.in_ok-n.n c.read.new.buf,
         reads_on (λ file. g.I.Inputs.told c.args.inputs.now c.args.name.now ≡ Some file) c.args.reader.now c.loop-edges.reader c.loop-edges.invariant.reads.0 c.loop-edges.place c.loop-edges.invariant.place c.read.new.buf c.in_ok-n.n c.loop-edges.edges.items
             (λ file t. c.in_ok-n.ensures.bytes file (ap (λ f. f c.args.name.now) c.loop-edges.invariant.kept ∙ t))
-            c.loop-edges.invariant.reads.1 c.feed.new.self c.feed.new.edges.items c.in_ok-n.ensures.count there (λ names. c.in_ok-feed.ensures.ok names c.loop-edges.invariant.reads.0 []),
+            c.loop-edges.invariant.reads.1 c.feed.new.self c.feed.new.edges.items c.in_ok-n.ensures.count there (λ names. c.in_ok-feed.ensures.ok 0 names c.loop-edges.invariant.reads.0 []),
       );
     }
 
@@ -46,7 +46,7 @@ returns-in_err-feed-clause-fault g c =
     (λ line kind file names e t s.
     reads_fault (λ file. g.I.Inputs.told c.args.inputs.now c.args.name.now ≡ Some file) c.args.reader.now c.loop-edges.reader c.loop-edges.invariant.reads.0 c.loop-edges.place c.loop-edges.invariant.place c.read.new.buf c.in_ok-n.n c.loop-edges.edges.items
     (λ file t. c.in_ok-n.ensures.bytes file (ap (λ f. f c.args.name.now) c.loop-edges.invariant.kept ∙ t))
-    c.loop-edges.invariant.reads.1 names _ (c.in_err-feed.ensures.fault line kind e names c.loop-edges.invariant.reads.0 [] (c.loop-edges.invariant.reads.1.feeds names s)) file t)
+    c.loop-edges.invariant.reads.1 names _ (c.in_err-feed.ensures.fault line kind e 0 names c.loop-edges.invariant.reads.0 [] (c.loop-edges.invariant.reads.1.feeds names s)) file t)
 
 pub returns-in_err-feed-clause-failed : goal.returns-in_err-feed-clause-failed
 returns-in_err-feed-clause-failed g c =
@@ -64,7 +64,7 @@ returns-in_err-finish-clause-fault g c =
     (λ file t. c.in_ok-n.ensures.bytes file (ap (λ f. f c.args.name.now) c.loop-edges.invariant.kept ∙ t))
     r
     (omega (arith, c.read.auto.buf, c.loop-edges.auto.piece, c.requires.some)) c.if-n-eq0.true file t in
-    sym (ap (edges_fault names) all) ∙ c.in_err-finish.ensures.fault line kind e names c.loop-edges.invariant.reads.0 [] (r.feeds names s))
+    sym (ap (edges_fault 0 names) all) ∙ c.in_err-finish.ensures.fault line kind e 0 names c.loop-edges.invariant.reads.0 [] (r.feeds names s))
 
 pub returns-in_err-finish-clause-failed : goal.returns-in_err-finish-clause-failed
 returns-in_err-finish-clause-failed g c =
@@ -78,7 +78,7 @@ returns-clause-edges g c =
     rw c.from_vec.ensures
     (record {
       text = c.loop-edges.invariant.reads.0;
-      reads = c.in_ok-finish.ensures.ok names c.loop-edges.invariant.reads.0 [] (r.feeds names s);
+      reads = c.in_ok-finish.ensures.ok 0 names c.loop-edges.invariant.reads.0 [] (r.feeds names s);
       is_file =
           reads_all (λ file. g.I.Inputs.told c.args.inputs.now c.args.name.now ≡ Some file) c.args.reader.now c.loop-edges.reader c.loop-edges.invariant.reads.0 c.loop-edges.place c.loop-edges.invariant.place c.read.new.buf c.in_ok-n.n c.loop-edges.edges.items
           (λ file t. c.in_ok-n.ensures.bytes file (ap (λ f. f c.args.name.now) c.loop-edges.invariant.kept ∙ t))

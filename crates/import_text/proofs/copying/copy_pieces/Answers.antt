@@ -87,7 +87,7 @@ returns-in_err-finish-clause-fault g c =
     (λ f t. c.in_ok-n.ensures.bytes f (ap (λ h. h c.args.name.now) c.loop-n.invariant.kept ∙ t))
     copying.2.read
     (omega (arith, c.read.auto.buf, c.loop-n.auto.piece, c.requires.some)) c.if-n-eq0.true file t in
-    sym (ap (edges_fault names) all) ∙ c.in_err-finish.ensures.fault line kind (copying_text _ line kind e) names copying.0 copying.1 (copying.2.read.feeds names s))
+    sym (ap (edges_fault 0 names) all) ∙ c.in_err-finish.ensures.fault line kind (copying_text _ line kind e) names copying.0 copying.1 (copying.2.read.feeds names s))
 
 pub returns-in_err-finish-clause-cause : goal.returns-in_err-finish-clause-cause
 returns-in_err-finish-clause-cause g c =

@@ -1,9 +1,10 @@
-use Rattle.std.proofs.Common.{◌≡◌, ℕ, ◌-◌, ◌^◌, ◌≤◌, List, Some, true}
+use Rattle.std.proofs.Common.{◌≡◌, ℕ, ◌+◌, ◌-◌, ◌^◌, ◌≤◌, List, Some, true}
 use Rattle.std.specs.Prelude.{IsTrue}
 use Rattle.graph_words.specs.declared.types.Edge.{Edge}
 use Rattle.disk_model.specs.Crash.{LeavesOnly, From}
 use Rattle.disk_files.specs.Files.{OnlyFile}
 use Rattle.import_text.proofs.CopyLemmas.{IsCopying}
+use Rattle.edge_text.specs.declared.feed.TheConstants.{LONGEST_TEXT}
 use Rattle.import_text.proofs.copying.copy_pieces.Given as goal
 
 abbrev pub invariant-loop-n : goal.invariant-loop-n
@@ -11,7 +12,7 @@ invariant-loop-n g l =
     record {
       is_open : l.tally.reader.is_open ≡ true;
       place : l.tally.reader.place ≡ l.place;
-      short : l.place ≤ 1099511631872;
+      short : l.place ≤ LONGEST_TEXT + 4097;
       kept : g.I.Inputs.told l.inputs ≡ g.I.Inputs.told l.initial.inputs;
       count : (k : List ℕ) → g.I.Inputs.faults l.initial.inputs k ≤ g.I.Inputs.faults l.inputs k;
       later : g.D.Disk.faults l.initial.disk ≤ g.D.Disk.faults l.disk;

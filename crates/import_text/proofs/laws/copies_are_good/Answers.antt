@@ -8,7 +8,7 @@ pub returns : goal.returns
 returns c =
     λ names text edges labels r.
     record {
-      reads = subst (λ (es : List Edge). ReadsEdges labels text es labels) r.edges_are (reads_again names text edges labels r);
+      reads = subst (λ (es : List Edge). ReadsEdges 0 labels text es labels) r.edges_are (reads_again 0 names text edges labels r);
       len_is = refl;
       few = omega (arith, ap vertex_count_of r.edges_are);
     }

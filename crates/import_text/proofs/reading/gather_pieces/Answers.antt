@@ -63,7 +63,7 @@ returns-in-Err-finish-clause-bad g c =
     gathering.2.read
     (omega (arith, c.read.auto.buf, c.loop-n.auto.piece, c.requires.some)) c.if-n-eq0.true (g.D.Disk.seen c.args.disk.now c.args.file) (tells, refl) in
     let found = c.in-Err-finish.ensures.fault what.0 what.1 what.2 names gathering.0 gathering.1 (gathering.2.read.feeds names fed) in
-    let apart : None ≡ Some (record { line = what.0; kind = what.1 }) = sym whole ∙ sym (ap (edges_fault names) all) ∙ found in
+    let apart : None ≡ Some (record { line = what.0; kind = what.1 }) = sym whole ∙ sym (ap (edges_fault 0 names) all) ∙ found in
     absurd (cc)
 
 pub returns-clause-gathered : goal.returns-clause-gathered

@@ -1,9 +1,10 @@
-use Rattle.std.proofs.Common.{◌≡◌, ℕ, ◌-◌, ◌^◌, ◌≤◌, List, true, length}
+use Rattle.std.proofs.Common.{◌≡◌, ℕ, ◌+◌, ◌-◌, ◌^◌, ◌≤◌, List, true, length}
 use Rattle.std.specs.Prelude.{IsTrue}
 use Rattle.graph_words.specs.declared.types.Edge.{Edge}
 use Rattle.normal_law.specs.NormalForm.{normal_form}
 use Rattle.manifest_switch.specs.Looks.{OnlyLooks}
 use Rattle.import_text.proofs.ReadLemmas.{IsGathering}
+use Rattle.edge_text.specs.declared.feed.TheConstants.{LONGEST_TEXT}
 use Rattle.import_text.proofs.reading.gather_pieces.Given as goal
 
 abbrev pub invariant-loop-n : goal.invariant-loop-n
@@ -11,7 +12,7 @@ invariant-loop-n g l =
     record {
       is_open : l.gathering.reader.is_open ≡ true;
       place : l.gathering.reader.place ≡ l.place;
-      short : l.place ≤ 1099511631872;
+      short : l.place ≤ LONGEST_TEXT + 4097;
       names : length l.gathering.reader.table ≤ 1000;
       later : g.D.Disk.faults l.initial.disk ≤ g.D.Disk.faults l.disk;
       looks : OnlyLooks g.D.Disk.seen g.D.Disk.may_leave g.D.Disk.moment g.D.Disk.left_since l.initial.disk l.disk;

@@ -3,6 +3,7 @@ use Rattle.disk_model.specs.declared.form_kind.FormKind.TheVariants.{BadLabel, B
 use Rattle.std.specs.Prelude.{Err}
 use Rattle.grammar_norm.specs.declared.grammar.GrammarFault.{GrammarFault}
 use Rattle.grammar_norm.specs.GrammarText.{ReadsGrammar, grammar_fault}
+use Rattle.manifest.specs.Rules.{labels_place, newest_version}
 use Rattle.manifest_switch.specs.Slots.{file_of}
 use Rattle.open_store.specs.Copy.{IsBadCopy}
 use Rattle.open_store.proofs.Causes.{handed}
@@ -23,7 +24,7 @@ returns-in-Ok-clause-cause g c = λ tells.
     let m = c.args.manifest.now in
     let bytes = c.in_ok-bytes.ensures.bytes tells in
     let text : c.deref.result.now ≡ take m.grammar_len file = c.deref.ensures.value ∙ bytes.0 in
-    subst (λ (f : ℕ). IsBadCopy c.args.slot m file f 34 BadLabel) (sym c.file.ensures.number)
+    subst (λ (f : ℕ). IsBadCopy c.args.slot m file f (labels_place newest_version) BadLabel) (sym c.file.ensures.number)
     (IsBadCopy.differ _ _ bytes.1 (subst (λ (t : List ℕ). ReadsGrammar t c.in-Ok.grammar c.in-Ok.table) text c.in-Ok.ensures.grammar) (c.begins_with.ensures.differs c.if-begins_with.false))
 
 pub returns-in-Err-Text-clause-cause : goal.returns-in-Err-Text-clause-cause

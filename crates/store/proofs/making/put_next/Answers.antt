@@ -3,8 +3,7 @@ use Rattle.std.specs.Prelude.{IsTrue}
 use Rattle.graph_words.specs.declared.types.Born.{Born as ABorn}
 use Rattle.dest_map.specs.Counts.{IsCountsOf}
 use Rattle.intervals.proofs.BoundsLemmas.{high_within}
-use Rattle.partition_file.specs.declared.types.Format.TheVariants.{First}
-use Rattle.partition_file.specs.Spelling.{spelling}
+use Rattle.partition_file.specs.Spelling.{newest_format, spelling}
 use Rattle.store.proofs.Building.{built_more, fits_at, given_at, sets_at}
 use Rattle.store.proofs.making.put_next.Goals as goal
 
@@ -25,4 +24,4 @@ returns-clause-built g c =
     (λ tell. given_at s ends (D.seen c.args.disk.now) i lo hi p.edges c.bounds-lo.ensures.low c.bounds-lo.ensures.high (c.in_ok-part.ensures.given tell))
     (c.in_ok-push.ensures.ok ∙ ap (λ (h : ℕ). c.args.tables.now.parts ++ record { hi = h; file = 4 + i } ∷ []) c.bounds-lo.ensures.high)
     (λ before is. subst (λ (l : List ABorn). IsCountsOf ends (before ++ l) c.count_edges.new.map) c.edges.ensures.edges (c.count_edges.ensures.counts before is)) c.count_edges.ensures.others
-    (λ tell. sets_at (4 + i) c.deref.result.now (spelling First p) (D.seen c.given_part.new.disk) (D.seen c.args.disk.now) (D.seen c.rewrite.new.disk) c.in_ok-part.ensures.looks.same_seen (c.deref.ensures.value ∙ c.in_ok-bytes.ensures) (c.in_ok-rewrite.ensures.written tell))
+    (λ tell. sets_at (4 + i) c.deref.result.now (spelling newest_format p) (D.seen c.given_part.new.disk) (D.seen c.args.disk.now) (D.seen c.rewrite.new.disk) c.in_ok-part.ensures.looks.same_seen (c.deref.ensures.value ∙ c.in_ok-bytes.ensures) (c.in_ok-rewrite.ensures.written tell))

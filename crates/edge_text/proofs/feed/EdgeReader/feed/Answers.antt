@@ -12,7 +12,7 @@ loop-rest-init c =
       sum = refl;
       short = λ l. l;
       adds = AddsEdges-none c.args.edges.now.items c.args.self.now.table (length c.args.piece.now - length c.args.piece.now);
-      feeds = λ names text front f. f;
+      feeds = λ start names text front f. f;
     }
 
 pub loop-rest-preserved : goal.loop-rest-preserved
@@ -30,12 +30,12 @@ loop-rest-preserved c =
       adds =
           AddsEdges-weaker (length c.args.piece.now - length c.loop-rest.rest.now + 1) _ _ _ _ _ (omega (arith, cut, left, used.0, used.1, c.loop-rest.invariant.shorter))
           (AddsEdges-then (length c.args.piece.now - length c.loop-rest.rest.now) 1 _ _ _ _ _ _ c.loop-rest.invariant.adds c.in_ok-used.ensures.adds);
-      feeds = λ names text front f. c.in_ok-used.ensures.ok names text front (c.loop-rest.invariant.feeds names text front f);
+      feeds = λ start names text front f. c.in_ok-used.ensures.ok start names text front (c.loop-rest.invariant.feeds start names text front f);
     }
 
 pub returns-in_err-used-clause-fault : goal.returns-in_err-used-clause-fault
 returns-in_err-used-clause-fault c =
     let p = err_from_is_err_and c.from_residual.result c.from_residual.ensures.1 in
     rw (p.1, p.2)
-    (λ line kind told names text front f.
-    c.in_err-used.ensures.fault line kind told names (text ++ c.args.piece.now) front (c.loop-rest.invariant.feeds names (text ++ c.args.piece.now) front (feeds_piece names text c.args.self.now.held c.args.piece.now c.args.self.now.number c.args.self.now.place _ c.args.self.now.table f)))
+    (λ line kind told start names text front f.
+    c.in_err-used.ensures.fault line kind told start names (text ++ c.args.piece.now) front (c.loop-rest.invariant.feeds start names (text ++ c.args.piece.now) front (feeds_piece start names text c.args.self.now.held c.args.piece.now c.args.self.now.number c.args.self.now.place _ c.args.self.now.table f)))

@@ -8,4 +8,4 @@ pub returns-clause-start : goal.returns-clause-start
 returns-clause-start c =
     λ names is.
     let held : c.in_ok-new.field-0.held ≡ [] = ap (λ (s : Cutting). s.held) c.in_ok-new.ensures in
-    subst (λ (h : List ℕ). IsFeeding names [] h [] 0 0 [] c.args.table) (sym held) (feeds_start names c.args.table is c.requires)
+    subst (λ (h : List ℕ). IsFeeding c.args.start names [] h [] 0 c.args.start [] c.args.table) (sym held) (feeds_start c.args.start names c.args.table is c.requires.names)

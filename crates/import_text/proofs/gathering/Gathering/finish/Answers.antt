@@ -13,8 +13,8 @@ returns-in_err-finish-clause-fault c =
     let p = err_from_is_err_and c.from_residual.result c.from_residual.ensures.1 in
     rw (p.1, p.2)
     (λ line kind told names text front f.
-    let here = subst (λ (t : Gathered). IsFed names text t.reader front) (sym c.self.view_is) f in
-    c.in_err-finish.ensures.fault line kind told names text front (fed_on names text c.self.inside.reader front _ c.clear.ensures.items here))
+    let here = subst (λ (t : Gathered). IsFed 0 names text t.reader front) (sym c.self.view_is) f in
+    c.in_err-finish.ensures.fault line kind told 0 names text front (fed_on names text c.self.inside.reader front _ c.clear.ensures.items here))
 
 pub vertex_count-requires : goal.vertex_count-requires
 vertex_count-requires c =
@@ -41,5 +41,5 @@ returns-clause-taken c =
         given = found;
         vertices = c.max-self-inside.ensures ∙ ap (max c.self.inside.vertices) counted;
       };
-      reads = λ names text front f. e.ok names text front (fed_on names text c.self.inside.reader front _ c.clear.ensures.items f);
+      reads = λ names text front f. e.ok 0 names text front (fed_on names text c.self.inside.reader front _ c.clear.ensures.items f);
     })

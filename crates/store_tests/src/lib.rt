@@ -1,0 +1,17 @@
+//! What no clause says of disks, stores and commands: worked examples, and that calls succeed.
+#![tactic(auto)]
+
+#[cfg(test)]
+mod commands;
+#[cfg(test)]
+mod disks;
+#[cfg(test)]
+mod faults;
+#[cfg(test)]
+mod fixtures;
+#[cfg(test)]
+mod slots;
+#[cfg(test)]
+mod stores;
+#[cfg(test)]
+mod words;

@@ -1,0 +1,227 @@
+//! The bytes of manifests.
+ghost use Rattle.std.specs.Prelude.{IfOk};
+ghost use Rattle.manifest.specs.Spelling.{Fits};
+
+use disk_model::FormKind;
+use manifest::{Manifest, ManifestError, PartEntry, decode, encode};
+use std::alloc::{AllocError, Global};
+use std::test::Fail;
+
+/// The manifest of a finished store: three labels, one partition, three edges.
+const BODY: [u8; 75] = [
+    0x47, 0x53, 0x4d, 0x31, 1, 2, 0, 0, 0, 0, 0, 0, 0, 3, 0, 0, 0, // to the vertices
+    6, 0, 0, 0, 0, 0, 0, 0, 12, 0, 0, 0, 0, 0, 0, 0, // the lengths of the texts
+    3, 0, 1, 0x53, 1, 0x61, 1, 0x62, // the labels
+    1, 0, 3, 0, 0, 0, 5, 0, 0, 0, 1, 0, 0, 0, 0, 0, 0, 0, // the partition
+    3, 0, 0, 0, 0, 0, 0, 0, 2, 0, 0, 0, 0, 0, 0, 0, // its count and its mark
+];
+
+/// Two partitions, of 1 and 2 vertices, without labels and edges.
+const TWO: [u8; 133] = [
+    0x47, 0x53, 0x4d, 0x31, 0, 1, 0, 0, 0, 0, 0, 0, 0, 3, 0, 0, 0, // to the vertices
+    0, 0, 0, 0, 0, 0, 0, 0, 0, 0, 0, 0, 0, 0, 0, 0, 0, 0, // the texts, and no label
+    2, 0, 1, 0, 0, 0, 4, 0, 0, 0, 0, 0, 0, 0, 0, 0, 0, 0, // the first partition
+    3, 0, 0, 0, 5, 0, 0, 0, 0, 0, 0, 0, 0, 0, 0, 0, // the second
+    0, 0, 0, 0, 0, 0, 0, 0, 0, 0, 0, 0, 0, 0, 0, 0, 0, 0, 0, 0, 0, 0, 0, 0, 0, 0, 0, 0, 0, 0, 0, 0,
+    0, 0, 0, 0, 0, 0, 0, 0, 0, 0, 0, 0, 0, 0, 0, 0, 0, 0, 0, 0, 0, 0, 0, 0, 0, 0, 0, 0, 0, 0, 0, 0,
+];
+
+fn decoded(alloc: Global, bytes: &[u8]) -> Result<(Manifest, usize), Fail>
+    ensures { IfOk result (λ said. Fits said.0) }
+{
+    Ok(
+        decode(alloc, bytes)
+            .ok()
+            .ok_or("the bytes begin with a manifest")?,
+    )
+}
+
+// Bytes behind a body are ignored.
+#[test]
+fn a_body_is_decoded_and_encoded_again(rt: HostRuntime) -> Result<(), Fail> {
+    let alloc = rt.alloc();
+    let mut bytes = BODY.to_vec(alloc)?;
+    bytes.push(0xFF)?;
+    let (m, used) = decoded(alloc, &bytes)?;
+    assert_eq!(rt; used, 75);
+    assert_eq!(rt; (m.generation, m.round, m.vertices), (1, 2, 3));
+    assert_eq!(rt; (m.grammar_len, m.edges_len, m.first_len), (6, 12, 12));
+    let parts = [PartEntry { hi: 3, file: 5 }];
+    assert_eq!(rt; m.parts.as_slice(), parts.as_slice());
+    assert_eq!(rt; m.map.counts(), [3].as_slice());
+    assert_eq!(rt; m.marks.joined_rows(), [2].as_slice());
+    assert_eq!(rt; m.marks.newest_rows(), [1].as_slice());
+    let again = encode(alloc, &m.copy()?)?;
+    assert_eq!(rt; again.as_slice(), BODY.as_slice());
+    Ok(())
+}
+
+/// Whether the bytes begin with no manifest, and this is the first field that breaks its rule.
+fn breaks(alloc: Global, bytes: &[u8], place: u64, kind: FormKind) -> bool {
+    match decode(alloc, bytes) {
+        Err(ManifestError::Fault(fault)) => fault.place == place && fault.kind == kind,
+        _ => false,
+    }
+}
+
+/// Bytes of a body that are changed, one by one, and the fault.
+const CHANGES: [(usize, u8, u64, FormKind); 24] = [
+    (0, 0, 1, FormKind::BadMagic),
+    (4, 3, 5, FormKind::BadNumber),
+    (5, 0, 6, FormKind::BadNumber),
+    (5, 5, 6, FormKind::BadNumber),
+    (16, 1, 14, FormKind::BadNumber),
+    (20, 1, 18, FormKind::BadNumber),
+    (30, 1, 26, FormKind::BadNumber),
+    (34, 4, 34, FormKind::BadNumber),
+    (35, 0, 36, FormKind::BadLabel),
+    (35, 64, 36, FormKind::Short),
+    (35, 65, 36, FormKind::Short),
+    (35, 39, 36, FormKind::BadLabel),
+    (36, 0x20, 36, FormKind::BadLabel),
+    (38, 0x53, 38, FormKind::RepeatedLabel),
+    (41, 0, 42, FormKind::BadParts),
+    (42, 1, 42, FormKind::BadParts),
+    (13, 0, 42, FormKind::BadParts),
+    (43, 2, 44, FormKind::BadParts),
+    (43, 4, 44, FormKind::BadParts),
+    (47, 3, 48, FormKind::BadFile),
+    (48, 4, 48, FormKind::BadFile),
+    (51, 2, 52, FormKind::BadMark),
+    (62, 1, 60, FormKind::BadCount),
+    (67, 3, 68, FormKind::BadMark),
+];
+
+/// The same for two partitions.
+const CHANGES_OF_TWO: [(usize, u8, u64, FormKind); 7] = [
+    (37, 3, 54, FormKind::BadParts),
+    (53, 1, 54, FormKind::BadParts),
+    (57, 4, 58, FormKind::BadFile),
+    (61, 1, 62, FormKind::BadMark),
+    (71, 1, 70, FormKind::BadCount),
+    (79, 2, 78, FormKind::BadCount),
+    (132, 1, 126, FormKind::BadMark),
+];
+
+#[test]
+fn each_field_breaks_its_rule_at_its_first_byte(rt: HostRuntime) {
+    for (at, byte, place, kind) in CHANGES {
+        let mut bytes = BODY;
+        if at < bytes.len() {
+            bytes[at] = byte;
+        }
+        assert!(rt; breaks(rt.alloc(), &bytes, place, kind), "byte {at}");
+    }
+    assert!(rt; breaks(rt.alloc(), &BODY[..74], 68, FormKind::Short));
+    assert!(rt; breaks(rt.alloc(), &[], 1, FormKind::Short));
+}
+
+#[test]
+fn each_field_of_a_second_partition_breaks_its_rule(rt: HostRuntime) {
+    assert!(rt; decode(rt.alloc(), &TWO).is_ok());
+    for (at, byte, place, kind) in CHANGES_OF_TWO {
+        let mut bytes = TWO;
+        if at < bytes.len() {
+            bytes[at] = byte;
+        }
+        assert!(rt; breaks(rt.alloc(), &bytes, place, kind), "byte {at}");
+    }
+}
+
+#[test]
+fn a_label_that_is_too_long_may_be_cut(rt: HostRuntime) {
+    let mut bytes = TWO;
+    bytes[33] = 1;
+    bytes[35] = 97;
+    assert!(rt; breaks(rt.alloc(), &bytes, 36, FormKind::BadLabel));
+    bytes[35] = 98;
+    assert!(rt; breaks(rt.alloc(), &bytes, 36, FormKind::Short));
+}
+
+#[test]
+fn without_vertices_there_are_no_partitions(rt: HostRuntime) -> Result<(), Fail> {
+    let mut bytes = TWO;
+    bytes[13] = 0;
+    assert!(rt; breaks(rt.alloc(), &bytes, 36, FormKind::BadParts));
+    bytes[35] = 0;
+    let (m, used) = decoded(rt.alloc(), &bytes)?;
+    assert_eq!(rt; used, 37);
+    assert!(rt; m.parts.as_slice().is_empty());
+    Ok(())
+}
+
+/// A number as bytes, the lowest first.
+fn put(out: &mut Vec<u8>, width: usize, number: u64) -> Result<(), AllocError> {
+    let bytes = number.to_le_bytes();
+    for byte in bytes.iter().take(width) {
+        out.push(*byte)?;
+    }
+    Ok(())
+}
+
+/// 1,000 labels of 64 bytes.
+fn put_labels(out: &mut Vec<u8>) -> Result<(), AllocError> {
+    put(out, 2, 1000)?;
+    for i in 0..1000u16 {
+        put(out, 1, 64)?;
+        put(out, 1, u64::from(0x21 + i / 90))?;
+        put(out, 1, u64::from(0x21 + i % 90))?;
+        out.extend_from_slice(&[0x7E; 62])?;
+    }
+    Ok(())
+}
+
+/// How many edges there can be from one of 256 partitions of 65,536 vertices into another.
+const MOST: u64 = 65_536 * 65_536 * 63_000;
+
+/// One more than how many edges there can be.
+const LAST_ROUND: u64 = 1 + 65_536 * MOST;
+
+/// 256 partitions, each number as great as it can be.
+fn put_parts(out: &mut Vec<u8>) -> Result<(), AllocError> {
+    put(out, 2, 256)?;
+    for i in 0..256u64 {
+        put(out, 4, 65_536 * (i + 1))?;
+        put(out, 4, 768 + i)?;
+        put(out, 8, LAST_ROUND - 1)?;
+    }
+    Ok(())
+}
+
+/// A number of eight bytes for each pair of 256 partitions.
+fn put_pairs(out: &mut Vec<u8>, number: u64) -> Result<(), AllocError> {
+    for _ in 0..65_536 {
+        put(out, 8, number)?;
+    }
+    Ok(())
+}
+
+/// The longest body, each number as great as it can be.
+fn longest(alloc: Global) -> Result<Vec<u8>, AllocError> {
+    let mut out = Vec::new(alloc);
+    out.extend_from_slice(b"GSM1\x02")?;
+    put(&mut out, 8, LAST_ROUND)?;
+    put(&mut out, 4, 16_777_216)?;
+    put(&mut out, 8, 16_777_216)?;
+    put(&mut out, 8, 1_099_511_627_776)?;
+    put_labels(&mut out)?;
+    put_parts(&mut out)?;
+    put_pairs(&mut out, MOST)?;
+    put_pairs(&mut out, LAST_ROUND)?;
+    Ok(out)
+}
+
+#[test]
+fn the_longest_body_is_decoded_and_encoded_again(rt: HostRuntime) -> Result<(), Fail> {
+    let alloc = rt.alloc();
+    let mut bytes = longest(alloc)?;
+    assert_eq!(rt; bytes.len(), 1_117_709);
+    let (m, used) = decoded(alloc, &bytes)?;
+    assert_eq!(rt; used, 1_117_709);
+    assert_eq!(rt; encode(alloc, &m)?.as_slice(), bytes.as_slice());
+    let last = bytes.pop();
+    assert!(rt; breaks(alloc, &bytes, 1_117_702, FormKind::Short));
+    bytes.push(last.map_or(0, |byte| byte | 1))?;
+    assert!(rt; breaks(alloc, &bytes, 1_117_702, FormKind::BadMark));
+    Ok(())
+}
