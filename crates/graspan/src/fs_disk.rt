@@ -3,6 +3,7 @@ ghost use Rattle.std.specs.Prelude.{◌≡◌, ◌+◌, ◌<◌, ◌≤◌, ◌^
 ghost use Rattle.std.proofs.lemmas.Bool.{false≢true};
 ghost use Rattle.disk_model.specs.Disk.{HasFailed};
 
+use crate::failure::Reason;
 use disk_model::{Disk, Failed};
 use std::fs::{File, OpenFile, OpenOptions};
 use std::io::{ErrorKind, Read, Seek, SeekFrom, Write};
@@ -31,6 +32,8 @@ pub(crate) struct FsDisk<'a, R: Files + AllocGlobal> {
     // The files that may have changed since the last sync: all of them before the first one.
     unsynced: [bool; 1024],
     faults: u64,
+    // What a person is told of a call that failed.
+    reason: Reason,
 }
 
 // Makes the folder where it isn't there.
@@ -70,13 +73,32 @@ fn if_there<T: Drop>(opened: io::Result<T>) -> io::Result<Option<T>> {
 impl<'a, R: Files + AllocGlobal> FsDisk<'a, R> {
     /// The disk in this folder, which is made where it isn't there.
     pub(crate) fn new(rt: &'a R, path: &str) -> Self {
+        let mut reason = Reason::none();
+        let folder = match make_folder(rt, path) {
+            Ok(folder) => Some(folder),
+            Err(e) => {
+                reason.note(e.kind());
+                None
+            }
+        };
         FsDisk {
             rt,
-            folder: make_folder(rt, path).ok(),
+            folder,
             last: None,
             unsynced: [true; FILES],
             faults: 0,
+            reason,
         }
+    }
+
+    /// Whether the folder is there.
+    pub(crate) fn is_there(&self) -> bool {
+        self.folder.is_some()
+    }
+
+    /// Why the first call that failed did so.
+    pub(crate) fn reason(&self) -> Reason {
+        self.reason
     }
 
     // The path of a file.
@@ -206,9 +228,10 @@ impl<'a, R: Files + AllocGlobal> FsDisk<'a, R> {
     }
 
     // A call that failed raises the count.
-    fn fail(&mut self) -> Failed
+    fn fail(&mut self, error: io::Error) -> Failed
         ensures { HasFailed self.old.faults self.new.faults }
     {
+        self.reason.note(error.kind());
         self.faults = self.faults.saturating_add(1);
         Failed
     }
@@ -240,35 +263,35 @@ impl<R: Files + AllocGlobal> Disk for FsDisk<'_, R> {
     fn len(&mut self, file: u32) -> Result<u64, Failed> {
         match self.len_of(file) {
             Ok(len) => Ok(len),
-            Err(_) => Err(self.fail()),
+            Err(e) => Err(self.fail(e)),
         }
     }
 
     fn read(&mut self, file: u32, at: u64, buf: &mut [u8]) -> Result<usize, Failed> {
         match self.read_from(file, at, buf) {
             Ok(n) => Ok(n),
-            Err(_) => Err(self.fail()),
+            Err(e) => Err(self.fail(e)),
         }
     }
 
     fn write_at(&mut self, file: u32, at: u64, bytes: &[u8]) -> Result<(), Failed> {
         match self.write_from(file, at, bytes) {
             Ok(()) => Ok(()),
-            Err(_) => Err(self.fail()),
+            Err(e) => Err(self.fail(e)),
         }
     }
 
     fn cut(&mut self, file: u32, len: u64) -> Result<(), Failed> {
         match self.cut_to(file, len) {
             Ok(()) => Ok(()),
-            Err(_) => Err(self.fail()),
+            Err(e) => Err(self.fail(e)),
         }
     }
 
     fn sync(&mut self) -> Result<(), Failed> {
         match self.sync_all() {
             Ok(()) => Ok(()),
-            Err(_) => Err(self.fail()),
+            Err(e) => Err(self.fail(e)),
         }
     }
 }

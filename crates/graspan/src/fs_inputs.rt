@@ -1,10 +1,11 @@
 //! Files of the system as inputs: the trusted edge. No clause says what they hold.
 ghost use Rattle.std.specs.Prelude.{◌≡◌, ◌+◌, ◌<◌, ◌≤◌, ◌^◌, None, IfOk, length};
 
+use crate::failure::Reason;
 use io_edge::{Failed, Inputs};
 use std::fs::File;
 use std::io;
-use std::io::{Read, Seek, SeekFrom};
+use std::io::{ErrorKind, Read, Seek, SeekFrom};
 use std::rt::Files;
 
 /// A file that is open, and the place from which its next read gives bytes.
@@ -21,6 +22,9 @@ pub(crate) struct FsInputs<'a, R: Files + AllocGlobal> {
     rt: &'a R,
     last: Option<OpenFile<R::File>>,
     faults: u64,
+    // What a person is told of a read that failed.
+    failed_name: Option<String>,
+    reason: Reason,
 }
 
 impl<'a, R: Files + AllocGlobal> FsInputs<'a, R> {
@@ -30,7 +34,32 @@ impl<'a, R: Files + AllocGlobal> FsInputs<'a, R> {
             rt,
             last: None,
             faults: 0,
+            failed_name: None,
+            reason: Reason::none(),
         }
+    }
+
+    /// The name of the first file that couldn't be read.
+    pub(crate) fn failed_name(&self) -> Option<&str> {
+        match &self.failed_name {
+            Some(name) => Some(name.as_str()),
+            None => None,
+        }
+    }
+
+    /// Why it couldn't be read.
+    pub(crate) fn reason(&self) -> Reason {
+        self.reason
+    }
+
+    // Keeps what is told of a read that failed.
+    fn note(&mut self, name: &str, kind: ErrorKind)
+        ensures faults { self.new.faults ≡ self.old.faults }
+    {
+        if self.failed_name.is_none() {
+            self.failed_name = String::from_str(self.rt.alloc(), name).ok();
+        }
+        self.reason.note(kind);
     }
 
     fn read_at(&mut self, name: &str, at: u64, buf: &mut [u8]) -> io::Result<usize>
@@ -64,7 +93,8 @@ impl<R: Files + AllocGlobal> Inputs for FsInputs<'_, R> {
     fn read(&mut self, name: &str, at: u64, buf: &mut [u8]) -> Result<usize, Failed> {
         match self.read_at(name, at, buf) {
             Ok(n) => Ok(n),
-            Err(_) => {
+            Err(e) => {
+                self.note(name, e.kind());
                 self.faults = self.faults.saturating_add(1);
                 Err(Failed)
             }
