@@ -73,10 +73,10 @@ fn read_text<I: Inputs>(
         if n == 0 {
             break;
         }
-        reader.feed(alloc, &piece[..n], &mut edges)?;
+        reader.feed(&piece[..n], &mut edges)?;
         place += n as u64;
     }
-    reader.finish(alloc, &mut edges)?;
+    reader.finish(&mut edges)?;
     Ok(EdgeList::from_vec(edges))
 }
 

@@ -34,7 +34,6 @@ pub struct Copied {
 
 /// Copies a file piece by piece into an empty one, and tells its length.
 fn copy_pieces<I: Inputs, D: Disk>(
-    alloc: Global,
     inputs: &mut I,
     name: &str,
     disk: &mut D,
@@ -65,10 +64,10 @@ fn copy_pieces<I: Inputs, D: Disk>(
             break;
         }
         disk.write_at(file, place, &piece[..n])?;
-        tally.take(alloc, &piece[..n])?;
+        tally.take(&piece[..n])?;
         place += n as u64;
     }
-    tally.finish(alloc)?;
+    tally.finish()?;
     Ok(place)
 }
 
@@ -105,7 +104,7 @@ pub fn copy_edges<I: Inputs, D: Disk>(
     let mut piece = Vec::from_elem(alloc, 0, PIECE_LEN)?;
     let mut tally = Tally::new(alloc, table)?;
     disk.cut(file, 0)?;
-    let len = copy_pieces(alloc, inputs, name, disk, file, &mut tally, &mut piece)?;
+    let len = copy_pieces(inputs, name, disk, file, &mut tally, &mut piece)?;
     let (degrees, labels) = tally.into_parts();
     Ok(Copied {
         len,

@@ -33,7 +33,6 @@ fn reading_fault(fault: EdgesFault) -> TextFault
 
 /// Reads a file of the disk piece by piece, and tells its length.
 fn gather_pieces<D: Disk>(
-    alloc: Global,
     disk: &mut D,
     file: u32,
     normal: &Normal,
@@ -59,12 +58,12 @@ fn gather_pieces<D: Disk>(
         if n == 0 {
             break;
         }
-        if let Err(fault) = gathering.take(alloc, normal, &piece[..n]) {
+        if let Err(fault) = gathering.take(normal, &piece[..n]) {
             return Err(reading_fault(fault));
         }
         place += n as u64;
     }
-    if let Err(fault) = gathering.finish(alloc, normal) {
+    if let Err(fault) = gathering.finish(normal) {
         return Err(reading_fault(fault));
     }
     Ok(place)
@@ -93,7 +92,7 @@ fn gather_copy<D: Disk>(
     let names = labels.names().len();
     let mut piece = Vec::from_elem(alloc, 0, PIECE_LEN)?;
     let mut gathering = Gathering::new(alloc, labels.copy()?, lo, hi)?;
-    let found = gather_pieces(alloc, disk, file, normal, &mut gathering, &mut piece)?;
+    let found = gather_pieces(disk, file, normal, &mut gathering, &mut piece)?;
     if found != len {
         return Err(TextFault::BadCopy);
     }

@@ -12,11 +12,7 @@ use std::alloc::Global;
 
 /// A label that doesn't stand in the table, which it joins. The bytes behind it are left.
 #[tactic(auto, unfolding(crate::specs::Reading::label_at))]
-fn label_of<'a>(
-    alloc: Global,
-    labels: &mut LabelTable,
-    bytes: &'a [u8],
-) -> Result<&'a [u8], FieldError>
+fn label_of<'a>(labels: &mut LabelTable, bytes: &'a [u8]) -> Result<&'a [u8], FieldError>
     requires { length labels.old < 1000 }
     ensures { Gives (λ rest. (labels.new, rest.now)) result (label_at labels.old bytes.now) }
 {
@@ -31,7 +27,7 @@ fn label_of<'a>(
     if !is_label(name) {
         return Err(broken_at(bytes, FormKind::BadLabel));
     }
-    if !labels.add_new(alloc, name)? {
+    if !labels.add_new(name)? {
         return Err(broken_at(bytes, FormKind::RepeatedLabel));
     }
     Ok(behind)
@@ -49,7 +45,7 @@ pub(crate) fn labels_of(
     let mut labels = LabelTable::new(alloc);
     let mut rest = bytes;
     for _ in 0..count {
-        rest = label_of(alloc, &mut labels, rest)?;
+        rest = label_of(&mut labels, rest)?;
     }
     Ok((labels, rest))
 }
