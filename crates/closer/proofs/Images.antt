@@ -10,9 +10,9 @@ use Rattle.disk_model.specs.Disk.{Contents}
 use Rattle.disk_model.specs.Crash.{From, LeavesJust, LeavesOnly}
 use Rattle.disk_model.specs.Run.{and_then, at_end, no_step, then_no_more, then_run}
 use Rattle.disk_files.specs.Files.{OnlyFile}
-use Rattle.manifest.specs.declared.types.Manifest.{Manifest}
-use Rattle.manifest.specs.declared.types.PartEntry.{PartEntry}
-use Rattle.manifest.specs.Spelling.{Fits}
+use Rattle.manifest_codec.specs.declared.types.Manifest.{Manifest}
+use Rattle.manifest_codec.specs.declared.types.PartEntry.{PartEntry}
+use Rattle.manifest_codec.specs.Spelling.{Fits}
 use Rattle.manifest_switch.specs.declared.slot.Slot.{Slot}
 use Rattle.manifest_switch.specs.declared.slot.Slot.TheVariants.{One, Zero}
 use Rattle.manifest_switch.specs.Looks.{OnlyLooks}

@@ -2,7 +2,7 @@
 ghost use Rattle.std.specs.Prelude.{◌≡◌, ℕ, List};
 ghost use Rattle.graph_words.specs.declared.types.Born.{Born as ABorn};
 ghost use Rattle.disk_model.specs.Disk.{Contents};
-ghost use Rattle.manifest.specs.declared.types.Manifest.{Manifest as AManifest};
+ghost use Rattle.manifest_codec.specs.declared.types.Manifest.{Manifest as AManifest};
 ghost use Rattle.store_law.specs.Texts.{Texts, normal, rules};
 ghost use Rattle.store_law.specs.Listed.{state_in};
 ghost use Rattle.store_law.specs.Left.{IsLeft, IsOfTexts, IsStore, IsStoreOf};

@@ -3,7 +3,7 @@ ghost use Rattle.std.specs.Prelude.{◌≡◌, ◌⊎◌, ◌^◌, ◌<◌, ◌�
 ghost use Rattle.normal_law.specs.NormalForm.{normal_form};
 ghost use Rattle.dest_map.specs.Table.{counts_of};
 ghost use Rattle.pair_sched.specs.Marks.{joined_of};
-ghost use Rattle.manifest.specs.Spelling.{Fits};
+ghost use Rattle.manifest_codec.specs.Spelling.{Fits};
 ghost use Rattle.manifest_switch.specs.Looks.{OnlyLooks};
 ghost use Rattle.open_store.specs.Answers.{HasDiskCause};
 ghost use Rattle.partition_file.specs.Spelling.{IsPart};
@@ -11,7 +11,7 @@ ghost use Rattle.superstep.specs.Ends.{is_closed, rounds_of};
 ghost use Rattle.closer.specs.Making.{ArePairIn, AreRun, AreSpelled, BlamesPair, IfHigh, IsLeastMarkIn};
 
 use disk_model::Disk;
-use manifest::Manifest;
+use manifest_codec::Manifest;
 use open_store::{Store, StoreFault};
 use partition_file::Partition;
 use row_table::Rows;

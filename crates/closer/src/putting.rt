@@ -10,7 +10,7 @@ use crate::making::{file_for, with_file, with_row};
 use crate::pairing::Ran;
 use disk_model::Disk;
 use graph_words::Born;
-use manifest::Manifest;
+use manifest_codec::Manifest;
 use open_store::{Store, StoreFault, Tally};
 use partition_file::Partition;
 use std::alloc::{AllocError, Global};

@@ -14,7 +14,7 @@ use crate::options::RunOptions;
 use crate::pairing::{least_mark, load_pair, run_loaded};
 use crate::putting::put_pair;
 use disk_model::Disk;
-use manifest::Manifest;
+use manifest_codec::Manifest;
 use open_store::{Store, StoreFault};
 use pair_sched::pick;
 use std::alloc::Global;

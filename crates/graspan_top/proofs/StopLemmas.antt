@@ -5,7 +5,7 @@ use Rattle.normal_law.specs.NormalForm.{normal_form}
 use Rattle.disk_model.specs.Disk.{Contents}
 use Rattle.disk_model.specs.Crash.{From, LeavesOnly}
 use Rattle.disk_model.specs.Run.{and_then, at_end, started, then_no_more}
-use Rattle.manifest.specs.declared.types.Manifest.{Manifest}
+use Rattle.manifest_codec.specs.declared.types.Manifest.{Manifest}
 use Rattle.manifest_switch.specs.declared.slot.Found.TheVariants.{At, Blank}
 use Rattle.manifest_switch.specs.Looks.{OnlyLooks}
 use Rattle.manifest_switch.specs.Slots.{IsBlank, current_of}

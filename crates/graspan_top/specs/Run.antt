@@ -12,7 +12,7 @@ use Rattle.closing_machine.specs.Parts.{all_edges}
 use Rattle.disk_model.specs.Disk.{Contents}
 use Rattle.disk_model.specs.Crash.{LeavesOnly}
 use Rattle.disk_model.specs.declared.form_kind.FormKind.{FormKind}
-use Rattle.manifest.specs.declared.types.Manifest.{Manifest}
+use Rattle.manifest_codec.specs.declared.types.Manifest.{Manifest}
 use Rattle.manifest_switch.specs.declared.slot.Slot.{Slot}
 use Rattle.manifest_switch.specs.declared.slot.Found.TheVariants.{At, Blank}
 use Rattle.manifest_switch.specs.Slots.{current_of}

@@ -1,14 +1,14 @@
 //! A label's number is looked up.
 ghost use Rattle.std.specs.Prelude.{◌≡◌, List, ℕ, Some, Contains, IfOk, IfErr, option_map, slice_get};
 ghost use Rattle.graph_words.specs.declared.types.Born.{Born as ABorn};
-ghost use Rattle.manifest.specs.Spelling.{Fits};
+ghost use Rattle.manifest_codec.specs.Spelling.{Fits};
 ghost use Rattle.graspan_top.specs.Run.{IsShownText};
 ghost use Rattle.graspan_top.specs.Stages.{shown_text};
 ghost use Rattle.graspan_top.specs.declared.status.Status.TheVariants.{NotKnown};
 
 use crate::status::Status;
 use graph_words::LabelId;
-use manifest::Manifest;
+use manifest_codec::Manifest;
 
 /// The number of a label.
 pub(crate) fn number_of(manifest: &Manifest, label: &str) -> Result<LabelId, Status>

@@ -3,7 +3,7 @@ ghost use Rattle.std.specs.Prelude.{◌≡◌, ◌≤◌, ◌<◌, ◌++◌, [],
 ghost use Rattle.io_edge.specs.Devices.{AppendsPrefix, Rose};
 ghost use Rattle.disk_model.specs.Disk.{Rose as DiskRose};
 ghost use Rattle.graph_words.specs.declared.types.Born.{Born as ABorn};
-ghost use Rattle.manifest.specs.Spelling.{Fits};
+ghost use Rattle.manifest_codec.specs.Spelling.{Fits};
 ghost use Rattle.manifest_switch.specs.Looks.{OnlyLooks};
 ghost use Rattle.store_law.specs.Left.{IsDone};
 ghost use Rattle.open_store.specs.Store.{IsHeld};
@@ -21,7 +21,7 @@ use disk_model::Disk;
 use graph_words::LabelId;
 use io_edge::Sink;
 use itoa::Buffer;
-use manifest::Manifest;
+use manifest_codec::Manifest;
 use pair_sched::least_dirty;
 use query_text::{AnswerFault, answers};
 use std::alloc::Global;

@@ -2,7 +2,7 @@
 use Rattle.std.specs.Prelude.{◌≡◌, ◌≢◌, ◌⊎◌, ℕ, false, Option, Some, None, Result, Ok, Err}
 use Rattle.disk_model.specs.Disk.{Contents, Rose}
 use Rattle.disk_model.specs.Crash.{From}
-use Rattle.manifest.specs.declared.types.Manifest.{Manifest}
+use Rattle.manifest_codec.specs.declared.types.Manifest.{Manifest}
 use Rattle.manifest_switch.specs.declared.slot.Slot.{Slot}
 use Rattle.manifest_switch.specs.declared.slot.Slot.TheVariants.{Zero}
 use Rattle.manifest_switch.specs.declared.slot.Found.TheVariants.{At}

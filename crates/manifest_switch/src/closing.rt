@@ -2,7 +2,7 @@
 ghost use Rattle.std.specs.Prelude.{◌≡◌, ◌<◌, false, Bool, IsTrue, Ok, OnOk};
 ghost use Rattle.disk_model.specs.Disk.{Contents, HasCause};
 ghost use Rattle.disk_model.specs.Crash.{LeavesJust, LeavesOnly, From};
-ghost use Rattle.manifest.specs.declared.types.Manifest.{Manifest};
+ghost use Rattle.manifest_codec.specs.declared.types.Manifest.{Manifest};
 ghost use Rattle.manifest_switch.specs.declared.slot.Found.TheVariants.{At};
 ghost use Rattle.manifest_switch.specs.Slots.{file_of, other, is_open, current_of, HasOnly};
 ghost use Rattle.manifest_switch.specs.Steps.{Keeps};

@@ -2,8 +2,8 @@
 ghost use Rattle.std.specs.Prelude.{◌≡◌, ◌↔◌, ◌⊎◌, ℕ, List, false, Option, Some, None, Result, Ok, Err};
 ghost use Rattle.disk_model.specs.Disk.{Contents};
 ghost use Rattle.disk_model.specs.declared.form_kind.FormKind.TheVariants.{Generations};
-ghost use Rattle.manifest.specs.declared.types.Manifest.{Manifest};
-ghost use Rattle.manifest.specs.declared.types.ManifestFault.{ManifestFault};
+ghost use Rattle.manifest_codec.specs.declared.types.Manifest.{Manifest};
+ghost use Rattle.manifest_codec.specs.declared.types.ManifestFault.{ManifestFault};
 ghost use Rattle.manifest_switch.specs.declared.slot.Slot.{Slot};
 ghost use Rattle.manifest_switch.specs.declared.slot.Found.TheVariants.{Blank, At};
 ghost use Rattle.manifest_switch.specs.declared.slot.OpenFault.TheVariants.{BadStore};

@@ -1,8 +1,8 @@
 //! Which slot is current.
 ghost use Rattle.std.specs.Prelude.{◌≡◌, ◌≢◌, ◌⊎◌, ◌+◌, ◌-◌, ◌<◌, ◌≤◌, ◌^◌, ◌==◌, slice_index, ℕ, Bool, IsTrue, true, false, length, take, drop, Option, Some, None, Ok, Err, OnOk, IfOk, IfSome, option_map};
 ghost use Rattle.disk_model.specs.Disk.{Contents, HasCause};
-ghost use Rattle.manifest.specs.Reading.{reading};
-ghost use Rattle.manifest.specs.Spelling.{Fits};
+ghost use Rattle.manifest_codec.specs.Reading.{reading};
+ghost use Rattle.manifest_codec.specs.Spelling.{Fits};
 ghost use Rattle.manifest_switch.specs.declared.slot.Slot.{Slot};
 ghost use Rattle.manifest_switch.specs.Slots.{file_of, is_open, value_of, open_body, body, chosen, later_of, next_generation, current_of};
 ghost use Rattle.manifest_switch.specs.Looks.{OnlyLooks};
@@ -11,7 +11,7 @@ ghost use Rattle.manifest_switch.specs.Answers.{HoldsFit, HasOpenCause, Gives, I
 use crate::gates::OPEN;
 use crate::slot::{Found, OpenFault, Slot};
 use disk_model::{Disk, Failed, FormKind};
-use manifest::{Manifest, ManifestError, ManifestFault, decode, more_bytes_change_nothing};
+use manifest_codec::{Manifest, ManifestError, ManifestFault, decode, more_bytes_change_nothing};
 use std::alloc::Global;
 
 /// How many bytes of a body are read at first. They are enough for most manifests.

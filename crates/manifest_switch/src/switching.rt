@@ -2,8 +2,8 @@
 ghost use Rattle.std.specs.Prelude.{◌≡◌, ◌≢◌, ◌⊎◌, ◌+◌, ◌%◌, ◌<◌, ◌≤◌, ◌∷◌, [], ℕ, Bool, IsTrue, true, false, length, Option, Some, None, Ok, Err, OnOk, IfOk, IsErrOf};
 ghost use Rattle.disk_model.specs.Disk.{Contents};
 ghost use Rattle.disk_model.specs.Crash.{LeavesJust, LeavesOnly};
-ghost use Rattle.manifest.specs.Spelling.{Fits};
-ghost use Rattle.manifest.specs.declared.types.Manifest.{Manifest};
+ghost use Rattle.manifest_codec.specs.Spelling.{Fits};
+ghost use Rattle.manifest_codec.specs.declared.types.Manifest.{Manifest};
 ghost use Rattle.manifest_switch.specs.declared.slot.Slot.{Slot};
 ghost use Rattle.manifest_switch.specs.declared.slot.SwitchFault.TheVariants.{NoMemory};
 ghost use Rattle.manifest_switch.specs.Slots.{file_of, other, is_open, IsBlank, HasOnly, next_generation};
@@ -12,7 +12,7 @@ ghost use Rattle.manifest_switch.specs.Steps.{Succeeds, IsAmid, IsPlaced, IsSwit
 use crate::gates::{close_gate, open_gate, write_body};
 use crate::slot::{Slot, SwitchFault};
 use disk_model::{Disk, Failed};
-use manifest::{Manifest, encode, spelling_is_read};
+use manifest_codec::{Manifest, encode, spelling_is_read};
 use std::alloc::Global;
 
 // Puts a manifest into a slot that isn't open, and makes it the current one.

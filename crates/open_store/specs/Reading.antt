@@ -7,7 +7,7 @@ use Rattle.disk_model.specs.declared.form_kind.FormKind.TheVariants.{Counts}
 use Rattle.partition_file.specs.Spelling.{Fits, Part, Spells, first_break}
 use Rattle.dest_map.specs.Table.{counts_of}
 use Rattle.pair_sched.specs.Marks.{newest_of}
-use Rattle.manifest.specs.declared.types.Manifest.{Manifest}
+use Rattle.manifest_codec.specs.declared.types.Manifest.{Manifest}
 use Rattle.store_law.specs.Listed.{ends_of, part_of}
 use Rattle.open_store.specs.Store.{OpenStore, expect_in}
 

@@ -2,7 +2,7 @@
 ghost use Rattle.std.specs.Prelude.{◌≡◌, ◌≤◌, ℕ, IsTrue, length, take, IfOk, IsErrOf};
 ghost use Rattle.disk_model.specs.Disk.{Contents};
 ghost use Rattle.disk_model.specs.Crash.{LeavesJust, LeavesOnly};
-ghost use Rattle.manifest.specs.Spelling.{Fits};
+ghost use Rattle.manifest_codec.specs.Spelling.{Fits};
 ghost use Rattle.manifest_switch.specs.Slots.{next_generation, other};
 ghost use Rattle.manifest_switch.specs.Steps.{IsAmid, IsSwitched};
 ghost use Rattle.store_law.specs.Listed.{ends_of};
@@ -14,7 +14,7 @@ use crate::fault::StoreFault;
 use crate::store::Store;
 use disk_model::Disk;
 use intervals::Intervals;
-use manifest::Manifest;
+use manifest_codec::Manifest;
 use manifest_switch::switch;
 use std::alloc::{AllocError, Global};
 

@@ -2,7 +2,7 @@
 ghost use Rattle.std.specs.Prelude.{◌≡◌, ◌≢◌, ◌↔◌, [], ◌<◌, ◌≤◌, ℕ, List, IsTrue, true, false, length, take, slice_index_or, IfOk};
 ghost use Rattle.graph_words.specs.declared.types.Rule.{Rule as ARule};
 ghost use Rattle.grammar_norm.specs.GrammarText.{ReadsGrammar};
-ghost use Rattle.manifest.specs.Spelling.{Fits};
+ghost use Rattle.manifest_codec.specs.Spelling.{Fits};
 ghost use Rattle.manifest_switch.specs.Looks.{OnlyLooks};
 ghost use Rattle.manifest_switch.specs.Slots.{file_of};
 ghost use Rattle.open_store.specs.Answers.{HasDiskCause};
@@ -14,7 +14,7 @@ use crate::fault::StoreFault;
 use disk_model::{Disk, FormKind};
 use grammar_norm::{Grammar, GrammarFault, LabelTable, read_grammar};
 use label_table::Name;
-use manifest::{Manifest, Version, labels_place};
+use manifest_codec::{Manifest, Version, labels_place};
 use manifest_switch::Slot;
 use std::alloc::Global;
 

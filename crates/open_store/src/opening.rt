@@ -2,7 +2,7 @@
 ghost use Rattle.std.specs.Prelude.{◌≡◌, ◌≤◌, ℕ, IsTrue, Ok, IfOk};
 ghost use Rattle.disk_model.specs.Disk.{Contents};
 ghost use Rattle.disk_model.specs.Crash.{LeavesJust, LeavesOnly, From};
-ghost use Rattle.manifest.specs.Spelling.{Fits};
+ghost use Rattle.manifest_codec.specs.Spelling.{Fits};
 ghost use Rattle.manifest_switch.specs.Looks.{OnlyLooks};
 ghost use Rattle.manifest_switch.specs.Steps.{Stays};
 ghost use Rattle.store_law.specs.Listed.{ends_of};
@@ -17,7 +17,7 @@ use crate::grammar_copy::grammar_of;
 use crate::store::Store;
 use disk_model::Disk;
 use grammar_norm::normalise;
-use manifest::Manifest;
+use manifest_codec::Manifest;
 use manifest_switch::{Found, Slot, close_other, current};
 use std::alloc::Global;
 

@@ -6,7 +6,7 @@ ghost use Rattle.disk_files.specs.Files.{OnlyFile};
 ghost use Rattle.partition_file.specs.Spelling.{newest_format, spelling};
 ghost use Rattle.open_store.specs.declared.fault.StoreFault.TheVariants.{NoMemory};
 ghost use Rattle.open_store.specs.Answers.{HasDiskCause, blames_none};
-ghost use Rattle.manifest.specs.declared.types.PartEntry.{PartEntry as APartEntry};
+ghost use Rattle.manifest_codec.specs.declared.types.PartEntry.{PartEntry as APartEntry};
 ghost use Rattle.store_law.specs.Steps.{IsFree};
 ghost use Rattle.open_store.specs.Free.{IsUsed};
 
@@ -14,7 +14,7 @@ use crate::fault::StoreFault;
 use crate::store::Store;
 use disk_files::rewrite;
 use disk_model::Disk;
-use manifest::PartEntry;
+use manifest_codec::PartEntry;
 use partition_file::{Partition, encode};
 use std::alloc::Global;
 

@@ -17,7 +17,7 @@ use disk_files::rewrite;
 use disk_model::Disk;
 use import_text::given_edges;
 use intervals::Intervals;
-use manifest::{PartEntry, PartList};
+use manifest_codec::{PartEntry, PartList};
 use open_store::StoreFault;
 use partition_file::{Partition, encode};
 use std::alloc::Global;

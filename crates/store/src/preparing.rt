@@ -13,7 +13,7 @@ use grammar_norm::Normal;
 use import_text::copies_are_good;
 use intervals::Intervals;
 use io_edge::Inputs;
-use manifest::Manifest;
+use manifest_codec::Manifest;
 use open_store::StoreFault;
 use pair_sched::Marks;
 use std::alloc::{AllocError, Global};
