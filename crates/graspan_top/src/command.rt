@@ -1,8 +1,9 @@
 //! The command that words mean.
 ghost use Rattle.std.specs.Prelude.{◌≡◌, ◌≢◌, true, false, ◌⊎◌, ◌≤◌, ℕ, List, Option, Some, IsTrue, OnOk};
 ghost use Rattle.io_edge.specs.Devices.{Rose};
+ghost use Rattle.io_edge.specs.View.{NoCountFalls};
 ghost use Rattle.disk_model.specs.Disk.{Contents, Rose as DiskRose};
-ghost use Rattle.manifest_switch.specs.Looks.{OnlyLooks};
+ghost use Rattle.disk_model.specs.View.{OnlyLooks};
 ghost use Rattle.store_law.specs.Left.{IsLeft};
 ghost use Rattle.store_law.specs.Listed.{AreExact};
 ghost use Rattle.store.specs.Import.{texts_of};
@@ -38,9 +39,9 @@ fn carry_out<I: Inputs, D: Disk, O: Sink>(
     ensures exact { (edges grammar : List ℕ) (options : TheOptions) (show : Option (List ℕ)) → said command.entry ≡ runs edges grammar options show → IsTrue D.tells → (g e : List ℕ) → I.told inputs.old grammar ≡ Some g → I.told inputs.old edges ≡ Some e → IsLeft (texts_of g e) (D.seen disk.old)
         → the_status result ≡ Done → AreExact (texts_of g e) (D.seen disk.new) × ((c : Contents) → D.may_leave disk.new c → AreExact (texts_of g e) c) }
     ensures stops { (edges grammar : List ℕ) (options : TheOptions) (show : Option (List ℕ)) → said command.entry ≡ runs edges grammar options show → StopsLeave D.may_leave D.moment D.left_since (I.told inputs.old) edges grammar disk.old disk.new }
-    ensures looks { IsLook (said command.entry) → OnlyLooks D.seen D.may_leave D.moment D.left_since disk.old disk.new }
+    ensures looks { IsLook (said command.entry) → OnlyLooks D.Disk disk.old disk.new }
     ensures kept { I.told inputs.new ≡ I.told inputs.old }
-    ensures others { (other : List ℕ) → I.faults inputs.old other ≤ I.faults inputs.new other }
+    ensures others { NoCountFalls I.Inputs inputs.old inputs.new }
     ensures later { D.faults disk.old ≤ D.faults disk.new }
     ensures writes { O.faults out.old ≤ O.faults out.new }
 {
@@ -140,7 +141,7 @@ pub fn graspan<I: Inputs, D: Disk, O: Sink>(
     ensures stops { (edges grammar : List ℕ) (options : TheOptions) (show : Option (List ℕ)) → Reading words.now (runs edges grammar options show) → StopsLeave D.may_leave D.moment D.left_since (I.told inputs.old) edges grammar disk.old disk.new }
 
     // The other commands change nothing.
-    ensures looks { (c : Said) → Reading words.now c → IsLook c → OnlyLooks D.seen D.may_leave D.moment D.left_since disk.old disk.new }
+    ensures looks { (c : Said) → Reading words.now c → IsLook c → OnlyLooks D.Disk disk.old disk.new }
     ensures kept { I.told inputs.new ≡ I.told inputs.old }
     ensures later { D.faults disk.old ≤ D.faults disk.new }
 {

@@ -2,9 +2,10 @@
 ghost use Rattle.std.specs.Prelude.{◌≡◌, ◌≢◌, ◌≤◌, ◌++◌, ℕ, List, Option, Some, IsTrue, IfErr, IfOk, OnOk, OnErr, length, option_map};
 ghost use Rattle.graph_words.specs.declared.types.Born.{Born as ABorn};
 ghost use Rattle.io_edge.specs.Devices.{AppendsPrefix, Rose, Takes};
+ghost use Rattle.io_edge.specs.View.{NoCountFalls};
 ghost use Rattle.closing_machine.specs.Parts.{all_edges};
 ghost use Rattle.disk_model.specs.Disk.{Contents, Rose as DiskRose};
-ghost use Rattle.manifest_switch.specs.Looks.{OnlyLooks};
+ghost use Rattle.disk_model.specs.View.{OnlyLooks};
 ghost use Rattle.store_law.specs.Left.{IsDone, IsLeft};
 ghost use Rattle.store_law.specs.Listed.{AreExact};
 ghost use Rattle.open_store.specs.Store.{IsHeld};
@@ -37,7 +38,7 @@ fn print_shown<D: Disk, O: Sink>(
     out: &mut O,
 ) -> Result<(), AnswerFault>
     ensures printed { IsTrue D.tells → (parts : List (List ABorn)) → AreListedIn store.now (D.seen disk.old) parts → Takes (O.told out.old) (O.told out.new) result (shown_text shown (all_edges parts)) }
-    ensures looks { OnlyLooks D.seen D.may_leave D.moment D.left_since disk.old disk.new }
+    ensures looks { OnlyLooks D.Disk disk.old disk.new }
     ensures later { D.faults disk.old ≤ D.faults disk.new }
     ensures writes { O.faults out.old ≤ O.faults out.new }
     ensures cause { HasAnswerCause (O.faults out.old) (O.faults out.new) (D.faults disk.old) (D.faults disk.new) (IsBlamed store.now D.tells (D.seen disk.old) 0 (length store.now.manifest.parts)) result }
@@ -63,7 +64,7 @@ fn print_run<D: Disk, O: Sink>(
         → Takes (O.told out.old) (O.told out.new) result (head_text store.now.manifest ++ (tally_text store.now.manifest.labels (all_edges parts) ++ (shown_text shown (all_edges parts) ++ done_line))) }
     ensures begun { IsTrue D.tells → OnErr result ((text : List ℕ) × IsShowBegun store.now D.tells (D.seen disk.old) shown text × AppendsPrefix (O.told out.old) (O.told out.new) text) }
     ensures listed { IsTrue D.tells → OnOk result ((parts : List (List ABorn)) × AreListedIn store.now (D.seen disk.old) parts) }
-    ensures looks { OnlyLooks D.seen D.may_leave D.moment D.left_since disk.old disk.new }
+    ensures looks { OnlyLooks D.Disk disk.old disk.new }
     ensures later { D.faults disk.old ≤ D.faults disk.new }
     ensures writes { O.faults out.old ≤ O.faults out.new }
     ensures cause { HasAnswerCause (O.faults out.old) (O.faults out.new) (D.faults disk.old) (D.faults disk.new) (IsBlamed store.now D.tells (D.seen disk.old) 0 (length store.now.manifest.parts)) result }
@@ -88,7 +89,7 @@ fn show_run<D: Disk, O: Sink>(
     ensures explained { ShowExplains store.now D.tells (D.seen disk.old) (option_map (λ l. l.now) show.entry) (DiskRose (D.faults disk.old) (D.faults disk.new)) (Rose (O.faults out.old) (O.faults out.new)) (status_of result) }
     ensures printed { PrintsFirst D.tells (IsRunText (D.seen disk.old) (option_map (λ l. l.now) show.entry)) (O.told out.old) (O.told out.new) (status_of result) }
     ensures begun { Begins D.tells (IsNothingOr (IsRunBegun (D.seen disk.old) (option_map (λ l. l.now) show.entry))) (O.told out.old) (O.told out.new) (status_of result) }
-    ensures looks { OnlyLooks D.seen D.may_leave D.moment D.left_since disk.old disk.new }
+    ensures looks { OnlyLooks D.Disk disk.old disk.new }
     ensures later { D.faults disk.old ≤ D.faults disk.new }
     ensures writes { O.faults out.old ≤ O.faults out.new }
 {
@@ -111,7 +112,7 @@ fn closed_store<I: Inputs, D: Disk>(
     ensures fails { IfErr result (λ fault. fault ≢ Done) }
     ensures stops { StopsLeave D.may_leave D.moment D.left_since (I.told inputs.old) files.now.edges.now files.now.grammar.now disk.old disk.new }
     ensures kept { I.told inputs.new ≡ I.told inputs.old }
-    ensures others { (other : List ℕ) → I.faults inputs.old other ≤ I.faults inputs.new other }
+    ensures others { NoCountFalls I.Inputs inputs.old inputs.new }
     ensures later { D.faults disk.old ≤ D.faults disk.new }
 {
     let store = ready_store(alloc, files, options.part_edges, inputs, disk)?;
@@ -136,7 +137,7 @@ pub(crate) fn run<I: Inputs, D: Disk, O: Sink>(
         → AreExact (texts_of g e) (D.seen disk.new) × ((c : Contents) → D.may_leave disk.new c → AreExact (texts_of g e) c) }
     ensures stops { StopsLeave D.may_leave D.moment D.left_since (I.told inputs.old) files.now.edges.now files.now.grammar.now disk.old disk.new }
     ensures kept { I.told inputs.new ≡ I.told inputs.old }
-    ensures others { (other : List ℕ) → I.faults inputs.old other ≤ I.faults inputs.new other }
+    ensures others { NoCountFalls I.Inputs inputs.old inputs.new }
     ensures later { D.faults disk.old ≤ D.faults disk.new }
     ensures writes { O.faults out.old ≤ O.faults out.new }
 {

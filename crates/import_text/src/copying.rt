@@ -2,10 +2,11 @@
 ghost use Rattle.std.specs.Prelude.{◌≡◌, ◌≢◌, ◌<◌, ◌≤◌, ◌^◌, ℕ, List, [], Some, true, IsTrue, IfOk, IfErr, OnOk, length};
 ghost use Rattle.std.specs.List.{sum};
 ghost use Rattle.io_edge.specs.declared.kinds.InputKind.{InputKind as AKind};
+ghost use Rattle.io_edge.specs.View.{NoCountFalls};
 ghost use Rattle.graph_words.specs.Text.{distinct};
 ghost use Rattle.edge_text.specs.EdgesText.{edges_fault};
 ghost use Rattle.edge_text.specs.Feeding.{IsFed};
-ghost use Rattle.disk_model.specs.Crash.{LeavesOnly, From};
+ghost use Rattle.disk_model.specs.View.{LeavesBy};
 ghost use Rattle.disk_files.specs.Files.{OnlyFile};
 ghost use Rattle.import_text.specs.Copying.{CopiesFile, CopiesBehind, AreFew, HasCauseIn};
 
@@ -52,9 +53,9 @@ fn copy_pieces<I: Inputs, D: Disk>(
     ensures fault { IfErr result (λ e. (line : ℕ) (kind : AKind) (text : List ℕ) (names : List (List ℕ)) → e ≡ TextFault.Text line kind
         → I.told inputs.old name.now ≡ Some text → IsFed 0 names [] tally.old.reader [] → edges_fault 0 names text ≡ Some (record { line = line; kind = kind })) }
     ensures cause { IfErr result (HasCauseIn (I.faults inputs.old name.now) (I.faults inputs.new name.now) (D.faults disk.old) (D.faults disk.new)) }
-    ensures any_moment { LeavesOnly D.moment D.left_since disk.old disk.new (From (D.may_leave disk.old) (OnlyFile file)) }
+    ensures any_moment { LeavesBy D.Disk disk.old disk.new (OnlyFile file) }
     ensures kept { I.told inputs.new ≡ I.told inputs.old }
-    ensures others { (other : List ℕ) → I.faults inputs.old other ≤ I.faults inputs.new other }
+    ensures others { NoCountFalls I.Inputs inputs.old inputs.new }
     ensures later { D.faults disk.old ≤ D.faults disk.new }
 {
     let mut place: u64 = 0;
@@ -96,9 +97,9 @@ pub fn copy_edges<I: Inputs, D: Disk>(
     ensures fault { IfErr result (λ e. (line : ℕ) (kind : AKind) (text : List ℕ) (names : List (List ℕ)) → e ≡ TextFault.Text line kind
         → I.told inputs.old name.now ≡ Some text → table ≡ distinct names → edges_fault 0 names text ≡ Some (record { line = line; kind = kind })) }
     ensures cause { IfErr result (HasCauseIn (I.faults inputs.old name.now) (I.faults inputs.new name.now) (D.faults disk.old) (D.faults disk.new)) }
-    ensures any_moment { LeavesOnly D.moment D.left_since disk.old disk.new (From (D.may_leave disk.old) (OnlyFile file)) }
+    ensures any_moment { LeavesBy D.Disk disk.old disk.new (OnlyFile file) }
     ensures kept { I.told inputs.new ≡ I.told inputs.old }
-    ensures others { (other : List ℕ) → I.faults inputs.old other ≤ I.faults inputs.new other }
+    ensures others { NoCountFalls I.Inputs inputs.old inputs.new }
     ensures later { D.faults disk.old ≤ D.faults disk.new }
 {
     let mut piece = Vec::from_elem(alloc, 0, PIECE_LEN)?;

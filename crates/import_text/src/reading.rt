@@ -1,10 +1,10 @@
 //! A copy is read again for one partition.
 ghost use Rattle.std.specs.Prelude.{◌≡◌, ◌<◌, ◌≤◌, ℕ, List, [], None, true, All, IsTrue, IfOk, IfErr, OnOk, length};
+ghost use Rattle.disk_model.specs.View.{OnlyLooks};
 ghost use Rattle.graph_words.specs.Text.{distinct};
 ghost use Rattle.normal_law.specs.NormalForm.{normal_form};
 ghost use Rattle.edge_text.specs.EdgesText.{edges_fault};
 ghost use Rattle.edge_text.specs.Feeding.{IsFed};
-ghost use Rattle.manifest_switch.specs.Looks.{OnlyLooks};
 ghost use Rattle.partition_file.specs.Spelling.{Fits};
 ghost use Rattle.import_text.specs.Reading.{reading_fault as fault_of_reading, GathersFile, GathersCopy, GivesPart, IsGoodCopy, HasCauseOn, expect_given};
 
@@ -50,7 +50,7 @@ fn gather_pieces<D: Disk>(
         → edges_fault 0 names (D.seen disk.old file) ≡ None → ⊥) }
     ensures cause { IfErr result (HasCauseOn (D.faults disk.old) (D.faults disk.new)) }
     ensures later { D.faults disk.old ≤ D.faults disk.new }
-    ensures looks { OnlyLooks D.seen D.may_leave D.moment D.left_since disk.old disk.new }
+    ensures looks { OnlyLooks D.Disk disk.old disk.new }
 {
     let mut place: u64 = 0;
     loop {
@@ -86,7 +86,7 @@ fn gather_copy<D: Disk>(
     ensures bad { IfErr result (λ e. e ≡ TextFault.BadCopy → IsTrue D.tells → IsGoodCopy labels.now len vertices (D.seen disk.old file) → ⊥) }
     ensures cause { IfErr result (HasCauseOn (D.faults disk.old) (D.faults disk.new)) }
     ensures later { D.faults disk.old ≤ D.faults disk.new }
-    ensures looks { OnlyLooks D.seen D.may_leave D.moment D.left_since disk.old disk.new }
+    ensures looks { OnlyLooks D.Disk disk.old disk.new }
 {
     // Names stand once in a table, so that only new ones make it longer.
     let names = labels.names().len();
@@ -136,7 +136,7 @@ pub fn given_edges<D: Disk>(
     ensures bad { IfErr result (λ e. e ≡ TextFault.BadCopy → IsTrue D.tells → IsGoodCopy labels.now len vertices (D.seen disk.old file) → ⊥) }
     ensures cause { IfErr result (HasCauseOn (D.faults disk.old) (D.faults disk.new)) }
     ensures later { D.faults disk.old ≤ D.faults disk.new }
-    ensures looks { OnlyLooks D.seen D.may_leave D.moment D.left_since disk.old disk.new }
+    ensures looks { OnlyLooks D.Disk disk.old disk.new }
 {
     // There are few fresh labels, so that each label's number fits the file of a partition.
     let _fresh = normal.fresh();

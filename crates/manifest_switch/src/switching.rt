@@ -1,7 +1,8 @@
 //! The switch from one slot to the other.
 ghost use Rattle.std.specs.Prelude.{◌≡◌, ◌≢◌, ◌⊎◌, ◌+◌, ◌%◌, ◌<◌, ◌≤◌, ◌∷◌, [], ℕ, Bool, IsTrue, true, false, length, Option, Some, None, Ok, Err, OnOk, IfOk, IsErrOf};
 ghost use Rattle.disk_model.specs.Disk.{Contents};
-ghost use Rattle.disk_model.specs.Crash.{LeavesJust, LeavesOnly};
+ghost use Rattle.disk_model.specs.Crash.{LeavesOnly};
+ghost use Rattle.disk_model.specs.View.{IsDurable};
 ghost use Rattle.manifest_codec.specs.Spelling.{Fits};
 ghost use Rattle.manifest_codec.specs.declared.types.Manifest.{Manifest};
 ghost use Rattle.manifest_switch.specs.declared.slot.Slot.{Slot};
@@ -27,7 +28,7 @@ fn replace<D: Disk>(
     requires follows { (c : Contents) → D.may_leave disk.old c → Succeeds slot next.now c }
     ensures any_moment { LeavesOnly D.moment D.left_since disk.old disk.new (IsAmid (D.may_leave disk.old) (D.seen disk.old) next.now) }
     ensures reads { IsTrue D.tells → OnOk result (IsPlaced slot next.now (D.seen disk.old) (D.seen disk.new)) }
-    ensures synced { OnOk result (LeavesJust (D.seen disk.new) (D.may_leave disk.new)) }
+    ensures synced { OnOk result (IsDurable D.Disk disk.new) }
     ensures memory { IsErrOf result NoMemory → disk.new ≡ disk.old }
     ensures later { D.faults disk.old ≤ D.faults disk.new }
     ensures cause { HasFaultCause (D.faults disk.old) (D.faults disk.new) result }
@@ -69,7 +70,7 @@ pub fn switch<D: Disk>(
     ensures slot { IfOk result (λ s. s ≡ target_of from) }
     ensures done { IfOk result (λ s. (c : Contents) → D.may_leave disk.new c → HasOnly s next.now c) }
     ensures reads { IsTrue D.tells → IfOk result (λ s. IsSwitched s next.now (D.seen disk.old) (D.seen disk.new)) }
-    ensures synced { IfOk result (λ _. LeavesJust (D.seen disk.new) (D.may_leave disk.new)) }
+    ensures synced { IfOk result (λ _. IsDurable D.Disk disk.new) }
     ensures memory { IsErrOf result NoMemory → disk.new ≡ disk.old }
     ensures later { D.faults disk.old ≤ D.faults disk.new }
     ensures cause { HasFaultCause (D.faults disk.old) (D.faults disk.new) result }

@@ -1,7 +1,8 @@
 //! Another manifest takes the place of the current one.
 ghost use Rattle.std.specs.Prelude.{◌≡◌, ◌≤◌, ℕ, IsTrue, length, take, IfOk, IsErrOf};
 ghost use Rattle.disk_model.specs.Disk.{Contents};
-ghost use Rattle.disk_model.specs.Crash.{LeavesJust, LeavesOnly};
+ghost use Rattle.disk_model.specs.Crash.{LeavesOnly};
+ghost use Rattle.disk_model.specs.View.{IsDurable};
 ghost use Rattle.manifest_codec.specs.Spelling.{Fits};
 ghost use Rattle.manifest_switch.specs.Slots.{next_generation, other};
 ghost use Rattle.manifest_switch.specs.Steps.{IsAmid, IsSwitched};
@@ -57,7 +58,7 @@ impl Store {
         ensures store { IfOk result (λ s. s ≡ record { slot = other self.slot; manifest = next; rules = self.rules; ends = ends_of next }) }
         ensures held { IfOk result (λ s. (c : Contents) → D.may_leave disk.new c → IsHeldAlone s c) }
         ensures reads { IsTrue D.tells → IfOk result (λ s. IsSwitched s.slot next (D.seen disk.old) (D.seen disk.new)) }
-        ensures synced { IfOk result (λ _. LeavesJust (D.seen disk.new) (D.may_leave disk.new)) }
+        ensures synced { IfOk result (λ _. IsDurable D.Disk disk.new) }
         ensures memory { IsErrOf result NoMemory → disk.new ≡ disk.old }
         ensures later { D.faults disk.old ≤ D.faults disk.new }
         ensures cause { HasDiskCause (D.faults disk.old) (D.faults disk.new) blames_none result }

@@ -3,9 +3,9 @@ ghost use Rattle.std.specs.Prelude.{◌≡◌, ◌↔◌, ◌<◌, ◌≤◌, �
 ghost use Rattle.graph_words.specs.declared.types.Born.{Born as ABorn};
 ghost use Rattle.dest_map.specs.Table.{counts_of};
 ghost use Rattle.disk_model.specs.declared.form_kind.FormKind.TheVariants.{Counts};
+ghost use Rattle.disk_model.specs.View.{OnlyLooks};
 ghost use Rattle.open_store.specs.declared.fault.StoreFault.TheVariants.{DiskFault};
 ghost use Rattle.pair_sched.specs.Marks.{newest_of};
-ghost use Rattle.manifest_switch.specs.Looks.{OnlyLooks};
 ghost use Rattle.store_law.specs.Listed.{part_file, part_of};
 ghost use Rattle.open_store.specs.Answers.{HasDiskCause, blames_none};
 ghost use Rattle.open_store.specs.Reading.{IsRead, IsRefused, IsTold, count_below_of};
@@ -32,7 +32,7 @@ impl Store {
         requires { i < length self.now.manifest.parts }
         ensures bounds { (expect_in self.now i).lo < (expect_in self.now i).hi }
         ensures begun { IfOk result (λ s. (s.file ≡ part_file self.now.manifest i) × IsStream s × IsAt (expect_in self.now i) D.tells (D.seen disk.old (part_file self.now.manifest i)) [] [] s) }
-        ensures looks { OnlyLooks D.seen D.may_leave D.moment D.left_since disk.old disk.new }
+        ensures looks { OnlyLooks D.Disk disk.old disk.new }
         ensures later { D.faults disk.old ≤ D.faults disk.new }
         ensures cause { HasDiskCause (D.faults disk.old) (D.faults disk.new) blames_none result }
     {
@@ -76,7 +76,7 @@ impl Store {
     fn edges<D: Disk>(&self, alloc: Global, disk: &mut D, i: usize) -> Result<Vec<Born>, StoreFault>
         requires { i < length self.now.manifest.parts }
         ensures read { IfOk result (λ v. IsRead self.now i D.tells (D.seen disk.old (part_file self.now.manifest i)) v.items) }
-        ensures looks { OnlyLooks D.seen D.may_leave D.moment D.left_since disk.old disk.new }
+        ensures looks { OnlyLooks D.Disk disk.old disk.new }
         ensures later { D.faults disk.old ≤ D.faults disk.new }
         ensures cause { HasDiskCause (D.faults disk.old) (D.faults disk.new) (λ file place kind. (file ≡ part_file self.now.manifest i) × (IsTrue D.tells → IsRefused self.now i (D.seen disk.old file) place kind)) result }
     {
@@ -104,7 +104,7 @@ impl Store {
         requires { i < length self.now.manifest.parts }
         ensures part { IfOk result (λ p. p ≡ part_of self.now.manifest i p.edges) }
         ensures read { IfOk result (λ p. IsRead self.now i D.tells (D.seen disk.old (part_file self.now.manifest i)) p.edges) }
-        ensures looks { OnlyLooks D.seen D.may_leave D.moment D.left_since disk.old disk.new }
+        ensures looks { OnlyLooks D.Disk disk.old disk.new }
         ensures later { D.faults disk.old ≤ D.faults disk.new }
         ensures cause { HasDiskCause (D.faults disk.old) (D.faults disk.new) (λ file place kind. (file ≡ part_file self.now.manifest i) × (IsTrue D.tells → IsRefused self.now i (D.seen disk.old file) place kind)) result }
     {
@@ -126,7 +126,7 @@ impl Store {
     ) -> Result<u64, StoreFault>
         requires { j < length self.now.manifest.parts }
         ensures count { IfOk result (λ n. (edges : List ABorn) × IsRead self.now j D.tells (D.seen disk.old (part_file self.now.manifest j)) edges × (n ≡ count_below_of self.now.ends i at edges)) }
-        ensures looks { OnlyLooks D.seen D.may_leave D.moment D.left_since disk.old disk.new }
+        ensures looks { OnlyLooks D.Disk disk.old disk.new }
         ensures later { D.faults disk.old ≤ D.faults disk.new }
         ensures cause { HasDiskCause (D.faults disk.old) (D.faults disk.new) (λ file place kind. (file ≡ part_file self.now.manifest j) × (IsTrue D.tells → IsRefused self.now j (D.seen disk.old file) place kind)) result }
     {

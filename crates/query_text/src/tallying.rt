@@ -1,10 +1,10 @@
 //! How many edges each label has.
 ghost use Rattle.std.specs.Prelude.{◌≡◌, ◌<◌, ◌≤◌, ◌+◌, ◌++◌, ◌^◌, ◌∷◌, [], ℕ, IsTrue, List, length, slice_index_or, IfOk, OnOk, OnErr};
+ghost use Rattle.disk_model.specs.View.{OnlyLooks};
 ghost use Rattle.graph_words.specs.declared.types.Born.{Born as ABorn};
 ghost use Rattle.io_edge.specs.Devices.{HasCause, Takes};
 ghost use Rattle.closing_machine.specs.Parts.{all_edges};
 ghost use Rattle.label_table.specs.Names.{IsTable};
-ghost use Rattle.manifest_switch.specs.Looks.{OnlyLooks};
 ghost use Rattle.open_store.specs.Store.{IsOpenStore};
 ghost use Rattle.query_text.specs.Text.{tally_text};
 ghost use Rattle.query_text.specs.Answered.{AreListedIn, AreRead, HasAnswerCause, IsBlamed, IsPrinted};
@@ -55,7 +55,7 @@ fn count_part<D: Disk>(
     requires i { i < length store.now.manifest.parts }
     requires tallied { (read : List (List ABorn)) × AreRead store.now D.tells (D.seen disk.old) 0 read × (length read ≡ i) × AreTallied (length store.now.manifest.labels) (all_edges read) counts.old.items }
     ensures tallied { OnOk result ((read : List (List ABorn)) × AreRead store.now D.tells (D.seen disk.old) 0 read × (length read ≡ i + 1) × AreTallied (length store.now.manifest.labels) (all_edges read) counts.new.items) }
-    ensures looks { OnlyLooks D.seen D.may_leave D.moment D.left_since disk.old disk.new }
+    ensures looks { OnlyLooks D.Disk disk.old disk.new }
     ensures later { D.faults disk.old ≤ D.faults disk.new }
     ensures cause { HasAnswerCause 0 0 (D.faults disk.old) (D.faults disk.new) (IsBlamed store.now D.tells (D.seen disk.old) 0 (length store.now.manifest.parts)) result }
 {
@@ -71,7 +71,7 @@ fn count_labels<D: Disk>(
     store: &Store,
 ) -> Result<Vec<u64>, AnswerFault>
     ensures tallied { IfOk result (λ v. (read : List (List ABorn)) × AreRead store.now D.tells (D.seen disk.old) 0 read × (length read ≡ length store.now.manifest.parts) × AreTallied (length store.now.manifest.labels) (all_edges read) v.items) }
-    ensures looks { OnlyLooks D.seen D.may_leave D.moment D.left_since disk.old disk.new }
+    ensures looks { OnlyLooks D.Disk disk.old disk.new }
     ensures later { D.faults disk.old ≤ D.faults disk.new }
     ensures cause { HasAnswerCause 0 0 (D.faults disk.old) (D.faults disk.new) (IsBlamed store.now D.tells (D.seen disk.old) 0 (length store.now.manifest.parts)) result }
 {
@@ -135,7 +135,7 @@ pub fn tally<D: Disk, O: Sink>(
     // Where the disk tells its contents, they are those of all partitions that it lists.
     ensures listed { IsTrue D.tells → (parts : List (List ABorn)) → AreListedIn store.now (D.seen disk.old) parts → Takes (O.told sink.old) (O.told sink.new) result (tally_text store.now.manifest.labels (all_edges parts)) }
 
-    ensures looks { OnlyLooks D.seen D.may_leave D.moment D.left_since disk.old disk.new }
+    ensures looks { OnlyLooks D.Disk disk.old disk.new }
     ensures later { D.faults disk.old ≤ D.faults disk.new }
     ensures writes { O.faults sink.old ≤ O.faults sink.new }
     ensures cause { HasAnswerCause (O.faults sink.old) (O.faults sink.new) (D.faults disk.old) (D.faults disk.new) (IsBlamed store.now D.tells (D.seen disk.old) 0 (length store.now.manifest.parts)) result }
