@@ -59,7 +59,8 @@ pub record AreRun (n : Normal) (since round : ℕ) (p : Part) (q : Option Part) 
   pub high_is : (loaded_of p' q').high ≡ (loaded_of p q).high
   pub low_part : IsPart p'
   pub high_part : IfHigh q' IsPart
-  pub run : (budget : ℕ) → length (loaded_of p' q').edges ≤ budget → IsPairRun n (loaded_of p q).edges since round budget true k (loaded_of p' q').edges
+  pub run : (budget : ℕ) → length (loaded_of p' q').edges ≤ budget
+      → IsPairRun n (loaded_of p q).edges since round budget true k (loaded_of p' q').edges
   pub format : All IsInFormat (loaded_of p' q').edges
   pub room : round + k < 2 ^ 64
 

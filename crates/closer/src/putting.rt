@@ -90,7 +90,8 @@ pub(crate) fn put_pair<D: Disk>(
     ran: &Ran,
 ) -> Result<Manifest, StoreFault>
     requires may { MayPutPair store.now D.tells (D.seen disk.old) low high ran.now.low ran.now.high next }
-    ensures put { IfOk result (λ after. ArePut store.now.manifest D.tells low high ran.now.low ran.now.high next (D.seen disk.old) after (D.seen disk.new)) }
+    ensures put { IfOk result (λ after. ArePut store.now.manifest D.tells low high ran.now.low ran.now.high next
+        (D.seen disk.old) after (D.seen disk.new)) }
     ensures any_moment { LeavesBy D.Disk disk.old disk.new (Spares store.now.manifest) }
     ensures later { D.faults disk.old ≤ D.faults disk.new }
     ensures cause { HasDiskCause (D.faults disk.old) (D.faults disk.new) blames_none result }

@@ -62,7 +62,8 @@ fn read_text<I: Inputs>(
     ensures edges { IfOk result (λ edges. (names : List (List ℕ)) → IsFed 0 names [] reader.old []
         → ReadsFile names (I.told inputs.old name.now) edges reader.new.table) }
     ensures fault { IfErr result (λ e. (line : ℕ) (kind : AKind) (file : List ℕ) (names : List (List ℕ)) → e ≡ EdgesFault.Text line kind
-        → I.told inputs.old name.now ≡ Some file → IsFed 0 names [] reader.old [] → edges_fault 0 names file ≡ Some (record { line = line; kind = kind })) }
+        → I.told inputs.old name.now ≡ Some file → IsFed 0 names [] reader.old []
+            → edges_fault 0 names file ≡ Some (record { line = line; kind = kind })) }
     ensures failed { IfErr result (λ e. e ≡ EdgesFault.ReadFailed → Rose (I.faults inputs.old name.now) (I.faults inputs.new name.now)) }
     ensures kept { I.told inputs.new ≡ I.told inputs.old }
     ensures others { NoCountFalls I.Inputs inputs.old inputs.new }
@@ -96,7 +97,8 @@ pub fn read_edges<I: Inputs>(
     ensures edges { IfOk result (λ edges. (names : List (List ℕ)) → table.old ≡ distinct names
         → ReadsFile names (I.told inputs.old name.now) edges table.new) }
     ensures fault { IfErr result (λ e. (line : ℕ) (kind : AKind) (file : List ℕ) (names : List (List ℕ)) → e ≡ EdgesFault.Text line kind
-        → I.told inputs.old name.now ≡ Some file → table.old ≡ distinct names → edges_fault 0 names file ≡ Some (record { line = line; kind = kind })) }
+        → I.told inputs.old name.now ≡ Some file → table.old ≡ distinct names
+            → edges_fault 0 names file ≡ Some (record { line = line; kind = kind })) }
     ensures failed { IfErr result (λ e. e ≡ EdgesFault.ReadFailed → Rose (I.faults inputs.old name.now) (I.faults inputs.new name.now)) }
     ensures kept { I.told inputs.new ≡ I.told inputs.old }
     ensures others { NoCountFalls I.Inputs inputs.old inputs.new }

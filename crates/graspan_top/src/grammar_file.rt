@@ -19,7 +19,8 @@ pub(crate) fn read_grammar_file<I: Inputs>(
     name: &str,
 ) -> Result<Vec<u8>, Status>
     ensures read { IfOk result (λ text. IsGrammarFile (I.told inputs.old name.now) text.items) }
-    ensures refused { IfErr result (RefusesGrammar (I.told inputs.old name.now) (Rose (I.faults inputs.old name.now) (I.faults inputs.new name.now))) }
+    ensures refused { IfErr result (RefusesGrammar (I.told inputs.old name.now)
+        (Rose (I.faults inputs.old name.now) (I.faults inputs.new name.now))) }
     ensures kept { I.told inputs.new ≡ I.told inputs.old }
     ensures others { NoCountFalls I.Inputs inputs.old inputs.new }
 {

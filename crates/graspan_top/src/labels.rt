@@ -27,9 +27,13 @@ pub(crate) fn shown_number(
     show: Option<&str>,
 ) -> Result<Option<LabelId>, Status>
     requires { Fits manifest.now }
-    ensures shown { IfOk result (λ l. (edges : List ABorn) → IsShownText manifest.now.labels edges (option_map (λ label. label.now) show.entry) (shown_text l edges)) }
-    ensures only { IfOk result (λ l. (edges : List ABorn) (text : List ℕ) → IsShownText manifest.now.labels edges (option_map (λ label. label.now) show.entry) text → text ≡ shown_text l edges) }
-    ensures none { IfErr result (λ s. (s ≡ NotKnown) × (label : List ℕ) × (option_map (λ l. l.now) show.entry ≡ Some label) × (Contains manifest.now.labels label → ⊥)) }
+    ensures shown { IfOk result (λ l. (edges : List ABorn)
+        → IsShownText manifest.now.labels edges (option_map (λ label. label.now) show.entry) (shown_text l edges)) }
+    ensures only { IfOk result (λ l. (edges : List ABorn) (text : List ℕ)
+        → IsShownText manifest.now.labels edges (option_map (λ label. label.now) show.entry) text
+        → text ≡ shown_text l edges) }
+    ensures none { IfErr result (λ s. (s ≡ NotKnown) × (label : List ℕ)
+        × (option_map (λ l. l.now) show.entry ≡ Some label) × (Contains manifest.now.labels label → ⊥)) }
 {
     match show {
         None => Ok(None),

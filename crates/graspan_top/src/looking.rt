@@ -71,7 +71,10 @@ pub(crate) fn parts<D: Disk, O: Sink>(
     disk: &mut D,
     out: &mut O,
 ) -> Result<(), Status>
-    ensures explained { (told : List ℕ → Option (List ℕ)) → PartsExplains (record { told = told; tells = D.tells; before = D.seen disk.old }) (DiskRose (D.faults disk.old) (D.faults disk.new)) (Rose (O.faults out.old) (O.faults out.new)) (status_of result) }
+    ensures explained { (told : List ℕ → Option (List ℕ))
+        → PartsExplains (record { told = told; tells = D.tells; before = D.seen disk.old })
+        (DiskRose (D.faults disk.old) (D.faults disk.new)) (Rose (O.faults out.old) (O.faults out.new))
+        (status_of result) }
     ensures printed { PrintsFirst D.tells (IsPartsText (D.seen disk.old)) (O.told out.old) (O.told out.new) (status_of result) }
     ensures begun { Begins D.tells (IsNothingOr (IsPartsText (D.seen disk.old))) (O.told out.old) (O.told out.new) (status_of result) }
     ensures looks { OnlyLooks D.Disk disk.old disk.new }
@@ -84,7 +87,10 @@ pub(crate) fn parts<D: Disk, O: Sink>(
 
 /// Prints the edges of a store without work left.
 pub(crate) fn dump<D: Disk, O: Sink>(alloc: Global, disk: &mut D, out: &mut O) -> Result<(), Status>
-    ensures explained { (told : List ℕ → Option (List ℕ)) → DumpExplains (record { told = told; tells = D.tells; before = D.seen disk.old }) (DiskRose (D.faults disk.old) (D.faults disk.new)) (Rose (O.faults out.old) (O.faults out.new)) (status_of result) }
+    ensures explained { (told : List ℕ → Option (List ℕ))
+        → DumpExplains (record { told = told; tells = D.tells; before = D.seen disk.old })
+        (DiskRose (D.faults disk.old) (D.faults disk.new)) (Rose (O.faults out.old) (O.faults out.new))
+        (status_of result) }
     ensures printed { PrintsFirst D.tells (IsDumpText (D.seen disk.old)) (O.told out.old) (O.told out.new) (status_of result) }
     ensures begun { Begins D.tells (IsNothingOr (IsDumpFront (D.seen disk.old))) (O.told out.old) (O.told out.new) (status_of result) }
     ensures looks { OnlyLooks D.Disk disk.old disk.new }
@@ -138,11 +144,14 @@ fn print_query<D: Disk, O: Sink>(
 ) -> Result<(), AnswerFault>
     requires { ends.from < store.now.manifest.vertices }
     ensures printed { (read : List (List ABorn)) × IsPrinted store.now D.tells (D.seen disk.old) (first_asked store.now (Some ends.from)) 1
-        (λ edges. answers_text label (Some ends.from) ends.to edges ++ the_count_line (length (answers_in label (Some ends.from) ends.to edges))) (O.told out.old) (O.told out.new) result read × (length read ≡ 0 → AppendsPrefix (O.told out.old) (O.told out.new) []) }
+        (λ edges. answers_text label (Some ends.from) ends.to edges
+            ++ the_count_line (length (answers_in label (Some ends.from) ends.to edges))) (O.told out.old)
+            (O.told out.new) result read × (length read ≡ 0 → AppendsPrefix (O.told out.old) (O.told out.new) []) }
     ensures looks { OnlyLooks D.Disk disk.old disk.new }
     ensures later { D.faults disk.old ≤ D.faults disk.new }
     ensures writes { O.faults out.old ≤ O.faults out.new }
-    ensures cause { HasAnswerCause (O.faults out.old) (O.faults out.new) (D.faults disk.old) (D.faults disk.new) (IsBlamed store.now D.tells (D.seen disk.old) (first_asked store.now (Some ends.from)) 1) result }
+    ensures cause { HasAnswerCause (O.faults out.old) (O.faults out.new) (D.faults disk.old) (D.faults disk.new)
+        (IsBlamed store.now D.tells (D.seen disk.old) (first_asked store.now (Some ends.from)) 1) result }
 {
     let count = answers(alloc, disk, store, label, Some(ends.from), ends.to, out)?;
     out.write(count_line(count).as_slice())?;
@@ -157,9 +166,14 @@ pub(crate) fn query<D: Disk, O: Sink>(
     ends: Ends,
     out: &mut O,
 ) -> Result<(), Status>
-    ensures explained { (told : List ℕ → Option (List ℕ)) → QueryExplains (record { told = told; tells = D.tells; before = D.seen disk.old }) label.now ends.from ends.to (DiskRose (D.faults disk.old) (D.faults disk.new)) (Rose (O.faults out.old) (O.faults out.new)) (status_of result) }
-    ensures printed { PrintsFirst D.tells (IsQueryText (D.seen disk.old) label.now ends.from ends.to) (O.told out.old) (O.told out.new) (status_of result) }
-    ensures begun { Begins D.tells (IsNothingOr (IsQueryText (D.seen disk.old) label.now ends.from ends.to)) (O.told out.old) (O.told out.new) (status_of result) }
+    ensures explained { (told : List ℕ → Option (List ℕ))
+        → QueryExplains (record { told = told; tells = D.tells; before = D.seen disk.old }) label.now ends.from
+        ends.to (DiskRose (D.faults disk.old) (D.faults disk.new)) (Rose (O.faults out.old) (O.faults out.new))
+        (status_of result) }
+    ensures printed { PrintsFirst D.tells (IsQueryText (D.seen disk.old) label.now ends.from ends.to)
+        (O.told out.old) (O.told out.new) (status_of result) }
+    ensures begun { Begins D.tells (IsNothingOr (IsQueryText (D.seen disk.old) label.now ends.from ends.to))
+        (O.told out.old) (O.told out.new) (status_of result) }
     ensures looks { OnlyLooks D.Disk disk.old disk.new }
     ensures later { D.faults disk.old ≤ D.faults disk.new }
     ensures writes { O.faults out.old ≤ O.faults out.new }

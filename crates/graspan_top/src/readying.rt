@@ -34,10 +34,14 @@ fn compare<I: Inputs, D: Disk>(
     disk: &mut D,
     store: &Store,
 ) -> Result<(), StoreFault>
-    ensures same_grammar { OnOk result (IsCopied (I.told inputs.old files.now.grammar.now) D.tells (copy_of store.now.manifest Grammar (D.seen disk.old))) }
+    ensures same_grammar { OnOk result (IsCopied (I.told inputs.old files.now.grammar.now) D.tells
+        (copy_of store.now.manifest Grammar (D.seen disk.old))) }
     ensures same_edges { OnOk result (IsCopied (I.told inputs.old files.now.edges.now) D.tells (copy_of store.now.manifest Edges (D.seen disk.old))) }
-    ensures cause { IfErr result (CompareExplains (I.told inputs.old files.now.grammar.now) (I.told inputs.old files.now.edges.now) D.tells (D.seen disk.old) store.now.manifest
-        (Rose (I.faults inputs.old files.now.grammar.now) (I.faults inputs.new files.now.grammar.now)) (Rose (I.faults inputs.old files.now.edges.now) (I.faults inputs.new files.now.edges.now)) (DiskRose (D.faults disk.old) (D.faults disk.new))) }
+    ensures cause { IfErr result (CompareExplains (I.told inputs.old files.now.grammar.now)
+        (I.told inputs.old files.now.edges.now) D.tells (D.seen disk.old) store.now.manifest
+        (Rose (I.faults inputs.old files.now.grammar.now) (I.faults inputs.new files.now.grammar.now))
+            (Rose (I.faults inputs.old files.now.edges.now) (I.faults inputs.new files.now.edges.now))
+            (DiskRose (D.faults disk.old) (D.faults disk.new))) }
     ensures looks { OnlyLooks D.Disk disk.old disk.new }
     ensures kept { I.told inputs.new ≡ I.told inputs.old }
     ensures others { NoCountFalls I.Inputs inputs.old inputs.new }
@@ -64,10 +68,18 @@ fn found_or_made<I: Inputs, D: Disk>(
     disk: &mut D,
 ) -> Result<Store, StoreFault>
     requires { IsGrammarFile (I.told inputs.old files.now.grammar.now) grammar.now }
-    ensures ready { IfOk result (IsReady (record { told = I.told inputs.old; tells = D.tells; before = D.seen disk.old }) files.now.edges.now files.now.grammar.now (D.seen disk.new) (D.may_leave disk.new)) }
-    ensures begins { IfOk result (λ _. IsTrue D.tells → BeginsWith (record { told = I.told inputs.old; tells = D.tells; before = D.seen disk.old }) (D.seen disk.new)) }
-    ensures cause { IfErr result (λ fault. (show : Option (List ℕ)) (after : Contents) → RunExplains (record { told = I.told inputs.old; tells = D.tells; before = D.seen disk.old }) files.now.edges.now files.now.grammar.now show after
-        (Rose (I.faults inputs.old files.now.edges.now) (I.faults inputs.new files.now.edges.now)) (Rose (I.faults inputs.old files.now.grammar.now) (I.faults inputs.new files.now.grammar.now)) (DiskRose (D.faults disk.old) (D.faults disk.new)) ⊥ (of_store fault)) }
+    ensures ready { IfOk result (IsReady (record
+        { told = I.told inputs.old; tells = D.tells; before = D.seen disk.old }) files.now.edges.now
+        files.now.grammar.now (D.seen disk.new) (D.may_leave disk.new)) }
+    ensures begins { IfOk result (λ _. IsTrue D.tells
+        → BeginsWith (record { told = I.told inputs.old; tells = D.tells; before = D.seen disk.old })
+        (D.seen disk.new)) }
+    ensures cause { IfErr result (λ fault. (show : Option (List ℕ)) (after : Contents)
+        → RunExplains (record { told = I.told inputs.old; tells = D.tells; before = D.seen disk.old })
+        files.now.edges.now files.now.grammar.now show after
+        (Rose (I.faults inputs.old files.now.edges.now) (I.faults inputs.new files.now.edges.now))
+            (Rose (I.faults inputs.old files.now.grammar.now) (I.faults inputs.new files.now.grammar.now))
+            (DiskRose (D.faults disk.old) (D.faults disk.new)) ⊥ (of_store fault)) }
     ensures stops { StopsLeave D.may_leave D.moment D.left_since (I.told inputs.old) files.now.edges.now files.now.grammar.now disk.old disk.new }
     ensures kept { I.told inputs.new ≡ I.told inputs.old }
     ensures others { NoCountFalls I.Inputs inputs.old inputs.new }
@@ -90,10 +102,18 @@ pub(crate) fn ready_store<I: Inputs, D: Disk>(
     inputs: &mut I,
     disk: &mut D,
 ) -> Result<Store, Status>
-    ensures ready { IfOk result (IsReady (record { told = I.told inputs.old; tells = D.tells; before = D.seen disk.old }) files.now.edges.now files.now.grammar.now (D.seen disk.new) (D.may_leave disk.new)) }
-    ensures begins { IfOk result (λ _. IsTrue D.tells → BeginsWith (record { told = I.told inputs.old; tells = D.tells; before = D.seen disk.old }) (D.seen disk.new)) }
-    ensures cause { IfErr result (λ fault. (show : Option (List ℕ)) (after : Contents) → RunExplains (record { told = I.told inputs.old; tells = D.tells; before = D.seen disk.old }) files.now.edges.now files.now.grammar.now show after
-        (Rose (I.faults inputs.old files.now.edges.now) (I.faults inputs.new files.now.edges.now)) (Rose (I.faults inputs.old files.now.grammar.now) (I.faults inputs.new files.now.grammar.now)) (DiskRose (D.faults disk.old) (D.faults disk.new)) ⊥ fault) }
+    ensures ready { IfOk result (IsReady (record
+        { told = I.told inputs.old; tells = D.tells; before = D.seen disk.old }) files.now.edges.now
+        files.now.grammar.now (D.seen disk.new) (D.may_leave disk.new)) }
+    ensures begins { IfOk result (λ _. IsTrue D.tells
+        → BeginsWith (record { told = I.told inputs.old; tells = D.tells; before = D.seen disk.old })
+        (D.seen disk.new)) }
+    ensures cause { IfErr result (λ fault. (show : Option (List ℕ)) (after : Contents)
+        → RunExplains (record { told = I.told inputs.old; tells = D.tells; before = D.seen disk.old })
+        files.now.edges.now files.now.grammar.now show after
+        (Rose (I.faults inputs.old files.now.edges.now) (I.faults inputs.new files.now.edges.now))
+            (Rose (I.faults inputs.old files.now.grammar.now) (I.faults inputs.new files.now.grammar.now))
+            (DiskRose (D.faults disk.old) (D.faults disk.new)) ⊥ fault) }
     ensures fails { IfErr result (λ fault. fault ≢ Done) }
     ensures stops { StopsLeave D.may_leave D.moment D.left_since (I.told inputs.old) files.now.edges.now files.now.grammar.now disk.old disk.new }
     ensures kept { I.told inputs.new ≡ I.told inputs.old }

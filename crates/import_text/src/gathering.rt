@@ -73,8 +73,10 @@ impl Gathering {
         requires names { length self.old.reader.table ≤ 1000 }
         ensures taken { OnOk result (GathersPiece (normal_form normal.now) piece.now self.old self.new) }
         ensures text { IfErr result (λ e. e ≢ EdgesFault.ReadFailed) }
-        ensures fault { IfErr result (λ e. (line : ℕ) (kind : AKind) → e ≡ EdgesFault.Text line kind → (names : List (List ℕ)) (text : List ℕ) (front : List AnEdge)
-            → IsFed 0 names text self.old.reader front → (later : List ℕ) → edges_fault 0 names ((text ++ piece.now) ++ later) ≡ Some (record { line = line; kind = kind })) }
+        ensures fault { IfErr result (λ e. (line : ℕ) (kind : AKind) → e ≡ EdgesFault.Text line kind
+            → (names : List (List ℕ)) (text : List ℕ) (front : List AnEdge)
+            → IsFed 0 names text self.old.reader front → (later : List ℕ)
+                → edges_fault 0 names ((text ++ piece.now) ++ later) ≡ Some (record { line = line; kind = kind })) }
     {
         self.found.clear();
         self.reader.feed(piece, &mut self.found)?;
@@ -94,7 +96,8 @@ impl Gathering {
         requires names { length self.old.reader.table ≤ 1000 }
         ensures taken { OnOk result (GathersEnd (normal_form normal.now) self.old self.new) }
         ensures text { IfErr result (λ e. e ≢ EdgesFault.ReadFailed) }
-        ensures fault { IfErr result (λ e. (line : ℕ) (kind : AKind) → e ≡ EdgesFault.Text line kind → (names : List (List ℕ)) (text : List ℕ) (front : List AnEdge)
+        ensures fault { IfErr result (λ e. (line : ℕ) (kind : AKind) → e ≡ EdgesFault.Text line kind
+            → (names : List (List ℕ)) (text : List ℕ) (front : List AnEdge)
             → IsFed 0 names text self.old.reader front → edges_fault 0 names text ≡ Some (record { line = line; kind = kind })) }
     {
         self.found.clear();

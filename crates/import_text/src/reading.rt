@@ -82,7 +82,8 @@ fn gather_copy<D: Disk>(
     hi: u32,
 ) -> Result<Vec<Edge>, TextFault>
     requires file { file < 1024 }
-    ensures gathered { IfOk result (λ given. GathersCopy (normal_form normal.now) labels.now len vertices lo hi (IsTrue D.tells) (D.seen disk.old file) given.items) }
+    ensures gathered { IfOk result (λ given. GathersCopy (normal_form normal.now) labels.now len vertices lo hi
+        (IsTrue D.tells) (D.seen disk.old file) given.items) }
     ensures bad { IfErr result (λ e. e ≡ TextFault.BadCopy → IsTrue D.tells → IsGoodCopy labels.now len vertices (D.seen disk.old file) → ⊥) }
     ensures cause { IfErr result (HasCauseOn (D.faults disk.old) (D.faults disk.new)) }
     ensures later { D.faults disk.old ≤ D.faults disk.new }

@@ -54,7 +54,8 @@ head_at First bytes = do
   vertices ← field_at 4 is_vertices BadNumber round.1
   grammar ← field_at 8 is_grammar_len BadNumber vertices.1
   edges ← field_at 8 is_edges_len BadNumber grammar.1
-  Ok (record { generation = generation.0; round = round.0; vertices = vertices.0; grammar_len = grammar.0; edges_len = edges.0; first_len = edges.0 }, edges.1)
+  Ok (record { generation = generation.0; round = round.0; vertices = vertices.0; grammar_len = grammar.0;
+      edges_len = edges.0; first_len = edges.0 }, edges.1)
 
 -- a label behind those before: a length, and as many bytes, are one field
 unfoldable pub label_at : List (List ℕ) → List ℕ → Read (List (List ℕ))
@@ -129,7 +130,9 @@ body_at bytes = do
   parts ← table_at front.0.0 front.1
   counts ← cells_at BadCount (count_limits (widths 0 parts.0.0)) [] parts.1
   joined ← cells_at BadMark (replicate (length parts.0.0 * length parts.0.0) front.0.0.round) [] counts.1
-  if is_reached front.0.0.round counts.0 then Ok (manifest_of front.0.0 front.0.1 parts.0 counts.0 joined.0, joined.1) else Err (record { left = length bytes - 5; kind = BadNumber })
+  if is_reached front.0.0.round counts.0 then Ok
+      (manifest_of front.0.0 front.0.1 parts.0 counts.0 joined.0, joined.1)
+      else Err (record { left = length bytes - 5; kind = BadNumber })
 
 -- how far it got, counted from the front: how many bytes the fields have, or the place of the field that breaks its rule.
 -- The byte before the body, the gate, is at place 0.

@@ -15,7 +15,8 @@ use Rattle.manifest_codec.specs.Rules.{widths, magic_of}
 
 -- the numbers in front
 abbrev pub head_of : Manifest → Head
-head_of m = record { generation = m.generation; round = m.round; vertices = m.vertices; grammar_len = m.grammar_len; edges_len = m.edges_len; first_len = m.first_len }
+head_of m = record { generation = m.generation; round = m.round; vertices = m.vertices; grammar_len = m.grammar_len;
+    edges_len = m.edges_len; first_len = m.first_len }
 
 -- the greatest birth of each partition
 abbrev pub newest_in : Manifest → List ℕ
@@ -25,7 +26,8 @@ newest_in m = m.marks.2
 
 -- in the first version the edges are one file's
 abbrev pub head_bytes : Version → Head → List ℕ
-head_bytes First h = little_bytes 4 (magic_of First) ++ little_bytes 1 h.generation ++ little_bytes 8 h.round ++ little_bytes 4 h.vertices ++ little_bytes 8 h.grammar_len ++ little_bytes 8 h.edges_len
+head_bytes First h = little_bytes 4 (magic_of First) ++ little_bytes 1 h.generation ++ little_bytes 8 h.round
+    ++ little_bytes 4 h.vertices ++ little_bytes 8 h.grammar_len ++ little_bytes 8 h.edges_len
 
 -- a length, and as many bytes
 abbrev pub label_bytes : List ℕ → List ℕ

@@ -23,7 +23,8 @@ pub fn close_other<D: Disk>(disk: &mut D, slot: Slot) -> Result<(), Failed>
     requires current { (c : Contents) → D.may_leave disk.old c → (m : Manifest) × (current_of c ≡ Ok (At slot m)) }
     requires alike { IsDurable D.Disk disk.old }
     ensures any_moment { LeavesBy D.Disk disk.old disk.new (Keeps (other slot)) }
-    ensures only { (m : Manifest) → current_of (D.seen disk.old) ≡ Ok (At slot m) → OnOk result ((c : Contents) → D.may_leave disk.new c → HasOnly slot m c) }
+    ensures only { (m : Manifest) → current_of (D.seen disk.old) ≡ Ok (At slot m)
+        → OnOk result ((c : Contents) → D.may_leave disk.new c → HasOnly slot m c) }
     ensures seen { IsTrue D.tells → OnOk result (Keeps (other slot) (D.seen disk.old) (D.seen disk.new)) }
     ensures synced { OnOk result (IsDurable D.Disk disk.new) }
     ensures looks { IsTrue D.tells → is_open (D.seen disk.old (file_of (other slot))) ≡ false → OnlyLooks D.Disk disk.old disk.new }

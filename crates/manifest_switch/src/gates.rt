@@ -30,7 +30,9 @@ fn is_loose<D: Disk>(disk: &mut D, slot: Slot) -> Result<bool, Failed>
 fn shut<D: Disk>(disk: &mut D, slot: Slot) -> Result<(), Failed>
     requires { (c : Contents) → D.may_leave disk.old c → MayClose slot c }
     ensures any_moment { LeavesBy D.Disk disk.old disk.new (Keeps slot) }
-    ensures reads { IsTrue D.tells → OnOk result (Sets (file_of slot) (with_closed_gate (D.seen disk.old (file_of slot))) (D.seen disk.old) (D.seen disk.new)) }
+    ensures reads { IsTrue D.tells → OnOk result
+        (Sets (file_of slot) (with_closed_gate (D.seen disk.old (file_of slot))) (D.seen disk.old)
+        (D.seen disk.new)) }
     ensures cause { HasCause (D.faults disk.old) (D.faults disk.new) result }
 {
     if !is_loose(disk, slot)? {
@@ -48,7 +50,9 @@ fn shut<D: Disk>(disk: &mut D, slot: Slot) -> Result<(), Failed>
 pub fn close_gate<D: Disk>(disk: &mut D, slot: Slot) -> Result<(), Failed>
     requires { (c : Contents) → D.may_leave disk.old c → MayClose slot c }
     ensures any_moment { LeavesBy D.Disk disk.old disk.new (Keeps slot) }
-    ensures reads { IsTrue D.tells → OnOk result (Sets (file_of slot) (with_closed_gate (D.seen disk.old (file_of slot))) (D.seen disk.old) (D.seen disk.new)) }
+    ensures reads { IsTrue D.tells → OnOk result
+        (Sets (file_of slot) (with_closed_gate (D.seen disk.old (file_of slot))) (D.seen disk.old)
+        (D.seen disk.new)) }
     ensures synced { OnOk result (IsDurable D.Disk disk.new) }
     ensures cause { HasCause (D.faults disk.old) (D.faults disk.new) result }
 {
@@ -64,7 +68,9 @@ pub fn close_gate<D: Disk>(disk: &mut D, slot: Slot) -> Result<(), Failed>
 pub fn write_body<D: Disk>(disk: &mut D, slot: Slot, body: &[u8]) -> Result<(), Failed>
     requires { (c : Contents) → D.may_leave disk.old c → IsClosed (c (file_of slot)) }
     ensures any_moment { LeavesBy D.Disk disk.old disk.new (Keeps slot) }
-    ensures reads { IsTrue D.tells → OnOk result (Sets (file_of slot) (written (D.seen disk.old (file_of slot)) 1 body.now) (D.seen disk.old) (D.seen disk.new)) }
+    ensures reads { IsTrue D.tells → OnOk result
+        (Sets (file_of slot) (written (D.seen disk.old (file_of slot)) 1 body.now) (D.seen disk.old)
+        (D.seen disk.new)) }
     ensures synced { OnOk result (IsDurable D.Disk disk.new) }
     ensures cause { HasCause (D.faults disk.old) (D.faults disk.new) result }
 {
@@ -82,7 +88,9 @@ pub fn write_body<D: Disk>(disk: &mut D, slot: Slot, body: &[u8]) -> Result<(), 
 pub fn open_gate<D: Disk>(disk: &mut D, slot: Slot) -> Result<(), Failed>
     requires { (c : Contents) → D.may_leave disk.old c → IsReady slot c }
     ensures any_moment { LeavesBy D.Disk disk.old disk.new (Opens slot) }
-    ensures reads { IsTrue D.tells → OnOk result (Sets (file_of slot) (written (D.seen disk.old (file_of slot)) 0 (1 ∷ [])) (D.seen disk.old) (D.seen disk.new)) }
+    ensures reads { IsTrue D.tells → OnOk result
+        (Sets (file_of slot) (written (D.seen disk.old (file_of slot)) 0 (1 ∷ [])) (D.seen disk.old)
+        (D.seen disk.new)) }
     ensures synced { OnOk result (IsDurable D.Disk disk.new) }
     ensures cause { HasCause (D.faults disk.old) (D.faults disk.new) result }
 {

@@ -65,7 +65,8 @@ pub fn switch<D: Disk>(
     requires fits { Fits next.now }
     requires first { from ≡ None → next.now.generation ≡ 0 }
     requires blank { from ≡ None → (c : Contents) → D.may_leave disk.old c → IsBlank c }
-    requires only { (s : Slot) → from ≡ Some s → (c : Contents) → D.may_leave disk.old c → (o : Manifest) × HasOnly s o c × (next.now.generation ≡ next_generation o.generation) }
+    requires only { (s : Slot) → from ≡ Some s → (c : Contents) → D.may_leave disk.old c → (o : Manifest)
+        × HasOnly s o c × (next.now.generation ≡ next_generation o.generation) }
     ensures any_moment { LeavesOnly D.moment D.left_since disk.old disk.new (IsAmid (D.may_leave disk.old) (D.seen disk.old) next.now) }
     ensures slot { IfOk result (λ s. s ≡ target_of from) }
     ensures done { IfOk result (λ s. (c : Contents) → D.may_leave disk.new c → HasOnly s next.now c) }

@@ -24,4 +24,6 @@ pub data IsBadCopy (s : Slot) (m : Manifest) (file : List ℕ) : ℕ → ℕ →
   -- it has a fault
   bad : (f : Fault) → m.grammar_len ≤ length file → grammar_fault (take m.grammar_len file) ≡ Some f → IsBadCopy s m file 2 0 BadText
   -- the manifest's labels, whose place the version tells, don't begin with its names
-  differ : (rules : List Rule) (names : List (List ℕ)) → m.grammar_len ≤ length file → ReadsGrammar (take m.grammar_len file) rules names → take (length names) m.labels ≢ names → IsBadCopy s m file (file_of s) (labels_place newest_version) BadLabel
+  differ : (rules : List Rule) (names : List (List ℕ)) → m.grammar_len ≤ length file
+      → ReadsGrammar (take m.grammar_len file) rules names → take (length names) m.labels ≢ names
+      → IsBadCopy s m file (file_of s) (labels_place newest_version) BadLabel

@@ -25,4 +25,5 @@ IsOpenedAlone c (Found s) = IsHeldAlone s c
 -- why the contents hold neither a store nor a blank one: the slots say no manifest, or the copy of the grammar is not the one of which it tells
 pub data IsBadStore (c : Contents) : ℕ → ℕ → FormKind → Type 0 where
   slots_break : {file place : ℕ} {kind : FormKind} → current_of c ≡ Err (slot_faults.BadStore file place kind) → IsBadStore c file place kind
-  copy_breaks : {file place : ℕ} {kind : FormKind} (s : Slot) (m : Manifest) → current_of c ≡ Ok (slots.At s m) → IsBadCopy s m (c 2) file place kind → IsBadStore c file place kind
+  copy_breaks : {file place : ℕ} {kind : FormKind} (s : Slot) (m : Manifest) → current_of c ≡ Ok (slots.At s m)
+      → IsBadCopy s m (c 2) file place kind → IsBadStore c file place kind

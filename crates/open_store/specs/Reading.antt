@@ -30,7 +30,9 @@ pub record IsRead (s : OpenStore) (i : ℕ) (tells : Bool) (file : List ℕ) (ed
 abbrev pub IsRefused : OpenStore → ℕ → List ℕ → ℕ → FormKind → Type 0
 IsRefused s i file place kind =
     (first_break (expect_in s i) file ≡ Some (record { place = place; kind = kind }))
-    ⊎ ((edges : List Born) × Fits (expect_in s i) (part_of s.manifest i edges) × Spells file (part_of s.manifest i edges) × (IsTold s.manifest i edges → ⊥) × (place ≡ 0) × (kind ≡ Counts))
+    ⊎ ((edges : List Born) × Fits (expect_in s i) (part_of s.manifest i edges)
+        × Spells file (part_of s.manifest i edges) × (IsTold s.manifest i edges → ⊥) × (place ≡ 0)
+        × (kind ≡ Counts))
 
 -- how many of the edges end in interval i below a vertex
 abbrev pub count_below_of : List ℕ → ℕ → ℕ → List Born → ℕ

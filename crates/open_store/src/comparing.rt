@@ -60,8 +60,11 @@ fn same_piece<D: Disk>(
     requires text { 0 < length text.now }
     ensures within { IfOk result (λ x. (x.0 ≤ left) × (x.0 ≤ length text.now)) }
     ensures further { IfOk result (λ x. x.1 ≡ false → 0 < x.0) }
-    ensures same { IsTrue D.tells → place + left ≤ length (D.seen disk.old file) → IfOk result (λ x. take x.0 text.now ≡ take x.0 (drop place (D.seen disk.old file))) }
-    ensures differ { IsTrue D.tells → place + left ≤ length (D.seen disk.old file) → IfOk result (λ x. x.1 ≡ true → (x.0 < left) × (x.0 < length text.now) × (slice_index_or text.now x.0 0 ≢ slice_index_or (drop place (D.seen disk.old file)) x.0 0)) }
+    ensures same { IsTrue D.tells → place + left ≤ length (D.seen disk.old file)
+        → IfOk result (λ x. take x.0 text.now ≡ take x.0 (drop place (D.seen disk.old file))) }
+    ensures differ { IsTrue D.tells → place + left ≤ length (D.seen disk.old file)
+        → IfOk result (λ x. x.1 ≡ true → (x.0 < left) × (x.0 < length text.now)
+        × (slice_index_or text.now x.0 0 ≢ slice_index_or (drop place (D.seen disk.old file)) x.0 0)) }
     ensures copy { 0 < length copy.new.items }
     ensures looks { OnlyLooks D.Disk disk.old disk.new }
     ensures cause { HasCause (D.faults disk.old) (D.faults disk.new) result }
@@ -113,9 +116,13 @@ fn compare<I: Inputs, D: Disk>(
     requires file { file < 1024 }
     requires len { len ≤ 1099511627776 }
     requires long { IsTrue D.tells → len ≤ length (D.seen disk.old file) }
-    ensures same { result ≡ Ok None → (text : List ℕ) → I.told inputs.old name.now ≡ Some text → IsTrue D.tells → text ≡ take len (D.seen disk.old file) }
-    ensures differ { (place : ℕ) → result ≡ Ok (Some place) → (text : List ℕ) → I.told inputs.old name.now ≡ Some text → IsTrue D.tells → DiffersFirst text (take len (D.seen disk.old file)) place }
-    ensures cause { IfErr result (HasCompareCause (I.faults inputs.old name.now) (I.faults inputs.new name.now) (D.faults disk.old) (D.faults disk.new)) }
+    ensures same { result ≡ Ok None → (text : List ℕ) → I.told inputs.old name.now ≡ Some text → IsTrue D.tells
+        → text ≡ take len (D.seen disk.old file) }
+    ensures differ { (place : ℕ) → result ≡ Ok (Some place) → (text : List ℕ)
+        → I.told inputs.old name.now ≡ Some text → IsTrue D.tells
+        → DiffersFirst text (take len (D.seen disk.old file)) place }
+    ensures cause { IfErr result (HasCompareCause (I.faults inputs.old name.now) (I.faults inputs.new name.now)
+        (D.faults disk.old) (D.faults disk.new)) }
     ensures looks { OnlyLooks D.Disk disk.old disk.new }
     ensures kept { I.told inputs.new ≡ I.told inputs.old }
     ensures others { NoCountFalls I.Inputs inputs.old inputs.new }
@@ -156,9 +163,12 @@ pub fn same_input<I: Inputs, D: Disk>(
     file: InputFile,
 ) -> Result<(), StoreFault>
     requires { file ≢ Source }
-    ensures same { OnOk result ((text : List ℕ) → I.told inputs.old name.now ≡ Some text → IsTrue D.tells → text ≡ copy_of store.now.manifest file (D.seen disk.old)) }
-    ensures cause { IfErr result (HasCompareFault (I.faults inputs.old name.now) (I.faults inputs.new name.now) (D.faults disk.old) (D.faults disk.new)
-        (λ f place. (f ≡ file) × ((text : List ℕ) → I.told inputs.old name.now ≡ Some text → IsTrue D.tells → DiffersFirst text (copy_of store.now.manifest file (D.seen disk.old)) place))) }
+    ensures same { OnOk result ((text : List ℕ) → I.told inputs.old name.now ≡ Some text → IsTrue D.tells
+        → text ≡ copy_of store.now.manifest file (D.seen disk.old)) }
+    ensures cause { IfErr result (HasCompareFault (I.faults inputs.old name.now) (I.faults inputs.new name.now)
+        (D.faults disk.old) (D.faults disk.new)
+        (λ f place. (f ≡ file) × ((text : List ℕ) → I.told inputs.old name.now ≡ Some text → IsTrue D.tells
+            → DiffersFirst text (copy_of store.now.manifest file (D.seen disk.old)) place))) }
     ensures looks { OnlyLooks D.Disk disk.old disk.new }
     ensures kept { I.told inputs.new ≡ I.told inputs.old }
     ensures others { NoCountFalls I.Inputs inputs.old inputs.new }

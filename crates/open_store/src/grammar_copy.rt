@@ -38,7 +38,9 @@ fn copy_bytes<D: Disk>(alloc: Global, disk: &mut D, size: u64) -> Result<Vec<u8>
     ensures bytes { IsTrue D.tells → IfOk result (λ v. (v.items ≡ take size (D.seen disk.old 2)) × (size ≤ length (D.seen disk.old 2))) }
     ensures looks { OnlyLooks D.Disk disk.old disk.new }
     ensures later { D.faults disk.old ≤ D.faults disk.new }
-    ensures cause { HasDiskCause (D.faults disk.old) (D.faults disk.new) (λ file place kind. (file ≡ 2) × (kind ≡ Short) × (IsTrue D.tells → (place ≡ length (D.seen disk.old 2)) × (length (D.seen disk.old 2) < size))) result }
+    ensures cause { HasDiskCause (D.faults disk.old) (D.faults disk.new)
+        (λ file place kind. (file ≡ 2) × (kind ≡ Short)
+        × (IsTrue D.tells → (place ≡ length (D.seen disk.old 2)) × (length (D.seen disk.old 2) < size))) result }
 {
     let len = disk.len(GRAMMAR_FILE)?;
     if len < size {
@@ -91,7 +93,9 @@ pub(crate) fn grammar_of<D: Disk>(
     ensures read { IsTrue D.tells → IfOk result (λ rules. IsCopyRead manifest.now (D.seen disk.old 2) rules) }
     ensures looks { OnlyLooks D.Disk disk.old disk.new }
     ensures later { D.faults disk.old ≤ D.faults disk.new }
-    ensures cause { HasDiskCause (D.faults disk.old) (D.faults disk.new) (λ file place kind. IsTrue D.tells → IsBadCopy slot manifest.now (D.seen disk.old 2) file place kind) result }
+    ensures cause { HasDiskCause (D.faults disk.old) (D.faults disk.new)
+        (λ file place kind. IsTrue D.tells → IsBadCopy slot manifest.now (D.seen disk.old 2) file place kind) result
+        }
 {
     let bytes = copy_bytes(alloc, disk, manifest.grammar_len)?;
     match read_grammar(alloc, &bytes) {

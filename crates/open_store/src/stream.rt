@@ -69,16 +69,23 @@ impl PartStream {
     ) -> Result<bool, StoreFault>
         requires { IsStream self.old }
         ensures stream { result ≡ Ok true → IsStream self.new }
-        ensures more { result ≡ Ok true → (e : AnExpect) (file bytes : List ℕ) (front : List ABorn) → (IsTrue D.tells → D.seen disk.old self.old.file ≡ file) → IsAt e D.tells file bytes (front ++ edges.old.items) self.old
+        ensures more { result ≡ Ok true → (e : AnExpect) (file bytes : List ℕ) (front : List ABorn)
+            → (IsTrue D.tells → D.seen disk.old self.old.file ≡ file)
+            → IsAt e D.tells file bytes (front ++ edges.old.items) self.old
             → (next : List ℕ) × IsAt e D.tells file next (front ++ edges.new.items) self.new }
-        ensures end { result ≡ Ok false → (e : AnExpect) (file bytes : List ℕ) (front : List ABorn) → (IsTrue D.tells → D.seen disk.old self.old.file ≡ file) → IsAt e D.tells file bytes (front ++ edges.old.items) self.old
+        ensures end { result ≡ Ok false → (e : AnExpect) (file bytes : List ℕ) (front : List ABorn)
+            → (IsTrue D.tells → D.seen disk.old self.old.file ≡ file)
+            → IsAt e D.tells file bytes (front ++ edges.old.items) self.old
             → HasEnded e D.tells file bytes (front ++ edges.old.items) × (edges.new ≡ edges.old) }
         ensures file { self.new.file ≡ self.old.file }
         ensures further { result ≡ Ok true → (self.old.place < self.new.place) × (self.new.len ≡ self.old.len) }
         ensures looks { OnlyLooks D.Disk disk.old disk.new }
         ensures later { D.faults disk.old ≤ D.faults disk.new }
         ensures cause { HasDiskCause (D.faults disk.old) (D.faults disk.new) (λ file place kind. (file ≡ self.old.file)
-            × (IsTrue D.tells → (e : AnExpect) (file bytes : List ℕ) (front : List ABorn) → D.seen disk.old self.old.file ≡ file → IsAt e D.tells file bytes (front ++ edges.old.items) self.old → first_break e file ≡ Some (record { place = place; kind = kind }))) result }
+            × (IsTrue D.tells → (e : AnExpect) (file bytes : List ℕ) (front : List ABorn)
+                → D.seen disk.old self.old.file ≡ file → IsAt e D.tells file bytes
+                (front ++ edges.old.items) self.old → first_break e file
+                ≡ Some (record { place = place; kind = kind }))) result }
     {
         if self.place == self.len {
             return self.end();
@@ -99,7 +106,8 @@ impl PartStream {
     fn end(&mut self) -> Result<bool, StoreFault>
         ensures end { result ≡ Ok false → rest_of self.old.reader [] ≡ complete }
         ensures no_more { result ≡ Ok true → ⊥ }
-        ensures bad { HasDiskCause 0 0 (λ file place kind. (file ≡ self.old.file) × ((rest_of self.old.reader []).fault ≡ Some (record { place = place; kind = kind }))) result }
+        ensures bad { HasDiskCause 0 0 (λ file place kind. (file ≡ self.old.file)
+            × ((rest_of self.old.reader []).fault ≡ Some (record { place = place; kind = kind }))) result }
         ensures no_disk { result ≡ Err DiskFault → ⊥ }
         ensures same { (self.new.file ≡ self.old.file) × (self.new.place ≡ self.old.place) }
     {

@@ -92,7 +92,8 @@ pub fn head<O: Sink>(store: &Store, sink: &mut O) -> Result<(), AnswerFault>
 /// The only fault is `WriteFault`, which comes only where the sink's count rose; then a prefix of the
 /// lines was printed.
 pub fn parts<O: Sink>(store: &Store, sink: &mut O) -> Result<(), AnswerFault>
-    ensures taken { (state : List ℕ) × IsStateLine store.now.manifest state × Takes (O.told sink.old) (O.told sink.new) result (head_text store.now.manifest ++ state) }
+    ensures taken { (state : List ℕ) × IsStateLine store.now.manifest state
+        × Takes (O.told sink.old) (O.told sink.new) result (head_text store.now.manifest ++ state) }
     ensures later { O.faults sink.old ≤ O.faults sink.new }
     ensures cause { HasWriteCause (O.faults sink.old) (O.faults sink.new) result }
 {

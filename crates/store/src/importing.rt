@@ -55,7 +55,8 @@ pub fn import<I: Inputs, D: Disk>(
     ensures any_moment { LeavesBy D.Disk disk.old disk.new (Imports grammar.now (I.told inputs.old edges.now) limit) }
 
     // Each fault has its cause.
-    ensures cause { IfErr result (HasImportCause grammar.now (I.told inputs.old edges.now) (IsTrue D.tells) (I.faults inputs.old edges.now) (I.faults inputs.new edges.now) (D.faults disk.old) (D.faults disk.new)) }
+    ensures cause { IfErr result (HasImportCause grammar.now (I.told inputs.old edges.now) (IsTrue D.tells)
+        (I.faults inputs.old edges.now) (I.faults inputs.new edges.now) (D.faults disk.old) (D.faults disk.new)) }
     ensures kept { I.told inputs.new ≡ I.told inputs.old }
     ensures others { NoCountFalls I.Inputs inputs.old inputs.new }
     ensures later { D.faults disk.old ≤ D.faults disk.new }

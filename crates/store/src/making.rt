@@ -37,8 +37,10 @@ fn given_part<D: Disk>(
     requires vertices { source.now.copied.vertices ≤ 16777216 }
     requires rules { All (λ r. r.left.0 < length source.now.copied.labels) source.now.normal }
     requires good { IsTrue D.tells → IsGoodCopy source.now.copied.labels source.now.copied.len source.now.copied.vertices (D.seen disk.old 3) }
-    ensures fits { IfOk result (Fits (expect_given lo hi source.now.copied.vertices (length source.now.copied.labels) (normal_form source.now.normal).fresh)) }
-    ensures given { IsTrue D.tells → IfOk result (λ p. AreGiven (normal_form source.now.normal) (graph_in source.now (D.seen disk.old)) lo hi p.edges) }
+    ensures fits { IfOk result (Fits (expect_given lo hi source.now.copied.vertices
+        (length source.now.copied.labels) (normal_form source.now.normal).fresh)) }
+    ensures given { IsTrue D.tells → IfOk result
+        (λ p. AreGiven (normal_form source.now.normal) (graph_in source.now (D.seen disk.old)) lo hi p.edges) }
     ensures looks { OnlyLooks D.Disk disk.old disk.new }
     ensures later { D.faults disk.old ≤ D.faults disk.new }
     ensures cause { HasDiskCause (D.faults disk.old) (D.faults disk.new) (blames_copy (IsTrue D.tells)) result }

@@ -58,7 +58,8 @@ pub(crate) fn prepare<I: Inputs, D: Disk>(
     requires { grammar_fault grammar.now ≡ None }
     ensures prepared { IfOk result (IsPrepared grammar.now (I.told inputs.old edges.now) limit (IsTrue D.tells) (D.seen disk.new)) }
     ensures any_moment { LeavesBy D.Disk disk.old disk.new IsBeside }
-    ensures cause { IfErr result (HasImportCause grammar.now (I.told inputs.old edges.now) (IsTrue D.tells) (I.faults inputs.old edges.now) (I.faults inputs.new edges.now) (D.faults disk.old) (D.faults disk.new)) }
+    ensures cause { IfErr result (HasImportCause grammar.now (I.told inputs.old edges.now) (IsTrue D.tells)
+        (I.faults inputs.old edges.now) (I.faults inputs.new edges.now) (D.faults disk.old) (D.faults disk.new)) }
     ensures kept { I.told inputs.new ≡ I.told inputs.old }
     ensures others { NoCountFalls I.Inputs inputs.old inputs.new }
     ensures later { D.faults disk.old ≤ D.faults disk.new }
