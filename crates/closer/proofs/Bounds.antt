@@ -13,10 +13,10 @@ use Rattle.closing_machine.proofs.Closing.{place_below}
 use Rattle.closing_machine.proofs.Members.{either}
 use Rattle.partition_file.specs.Spelling.{FitsEdge, IsPart}
 use Rattle.dest_map.specs.Table.{counts_of}
-use Rattle.manifest.specs.declared.types.PartEntry.{PartEntry}
-use Rattle.manifest.specs.declared.types.Manifest.{Manifest}
-use Rattle.manifest.specs.Rules.{widths}
-use Rattle.manifest.specs.Spelling.{Cover, Fits, width}
+use Rattle.manifest_codec.specs.declared.types.PartEntry.{PartEntry}
+use Rattle.manifest_codec.specs.declared.types.Manifest.{Manifest}
+use Rattle.manifest_codec.specs.Rules.{widths}
+use Rattle.manifest_codec.specs.Spelling.{Cover, Fits, width}
 use Rattle.store_law.specs.Listed.{ends_of, expect_of, part_of}
 use Rattle.store_law.proofs.Intervals.{cut_from_cover}
 use Rattle.open_store.specs.Reading.{count_into}

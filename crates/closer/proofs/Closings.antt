@@ -11,8 +11,8 @@ use Rattle.disk_model.specs.declared.form_kind.FormKind.{FormKind}
 use Rattle.dest_map.specs.Table.{counts_of}
 use Rattle.pair_sched.specs.Marks.{joined_of, newest_of}
 use Rattle.pair_sched.specs.Picking.{IsClean}
-use Rattle.manifest.specs.declared.types.Manifest.{Manifest}
-use Rattle.manifest.specs.Spelling.{Fits}
+use Rattle.manifest_codec.specs.declared.types.Manifest.{Manifest}
+use Rattle.manifest_codec.specs.Spelling.{Fits}
 use Rattle.manifest_switch.specs.Slots.{other}
 use Rattle.manifest_switch.specs.Steps.{IsSwitched}
 use Rattle.store_law.specs.Left.{IsDone}

@@ -7,8 +7,8 @@ use Rattle.disk_model.specs.Disk.{Contents}
 use Rattle.partition_file.specs.Spelling.{Part}
 use Rattle.dest_map.specs.Table.{counts_of}
 use Rattle.pair_sched.specs.Marks.{joined_of, newest_of}
-use Rattle.manifest.specs.declared.types.Manifest.{Manifest}
-use Rattle.manifest.specs.Spelling.{Fits}
+use Rattle.manifest_codec.specs.declared.types.Manifest.{Manifest}
+use Rattle.manifest_codec.specs.Spelling.{Fits}
 use Rattle.row_table.specs.Loaded.{span_of}
 use Rattle.open_store.specs.Store.{IsOpenStore, OpenStore}
 use Rattle.closer.specs.Continuing.{Continues, work_of}

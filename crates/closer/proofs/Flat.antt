@@ -14,8 +14,8 @@ use Rattle.closing_machine.proofs.Members.{All-from_members, either}
 use Rattle.partition_file.specs.Spelling.{FitsEdge, IsPart, Part}
 use Rattle.dest_map.specs.Table.{counts_of}
 use Rattle.pair_sched.specs.Marks.{newest_of}
-use Rattle.manifest.specs.declared.types.Manifest.{Manifest}
-use Rattle.manifest.specs.Spelling.{Fits}
+use Rattle.manifest_codec.specs.declared.types.Manifest.{Manifest}
+use Rattle.manifest_codec.specs.Spelling.{Fits}
 use Rattle.store_law.specs.Listed.{ends_of, part_of}
 use Rattle.superstep.specs.Room.{IsInFormat}
 use Rattle.open_store.specs.Reading.{count_into}

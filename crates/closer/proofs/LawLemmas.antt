@@ -13,8 +13,8 @@ use Rattle.closing_machine.specs.Holds.{Holds, IsTask}
 use Rattle.closing_machine.proofs.Superstepping.{superstep_keeps}
 use Rattle.disk_model.specs.Disk.{Contents}
 use Rattle.partition_file.specs.Spelling.{Spells}
-use Rattle.manifest.specs.declared.types.Manifest.{Manifest}
-use Rattle.manifest.specs.Spelling.{Fits}
+use Rattle.manifest_codec.specs.declared.types.Manifest.{Manifest}
+use Rattle.manifest_codec.specs.Spelling.{Fits}
 use Rattle.store_law.specs.Texts.{Texts, graph, normal, rules, edges_text}
 use Rattle.store_law.specs.Listed.{AreListed, part_file, part_of, state_in}
 use Rattle.store_law.specs.Left.{IsCopy, IsLeft, IsOfTexts, IsStore, IsStoreOf}

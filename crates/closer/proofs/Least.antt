@@ -9,7 +9,7 @@ use Rattle.closing_machine.specs.Tells.{Tells}
 use Rattle.closing_machine.proofs.Members.{either}
 use Rattle.dest_map.specs.Table.{counts_of}
 use Rattle.pair_sched.specs.Marks.{joined_of, newest_of}
-use Rattle.manifest.specs.declared.types.Manifest.{Manifest}
+use Rattle.manifest_codec.specs.declared.types.Manifest.{Manifest}
 use Rattle.store_law.specs.Listed.{ends_of, state_in}
 use Rattle.closer.specs.Making.{IsLeastMarkIn}
 

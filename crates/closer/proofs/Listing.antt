@@ -17,8 +17,8 @@ use Rattle.partition_file.specs.Spelling.{Fits as PartFits, FitsEdge, IsExpect, 
 use Rattle.partition_file.proofs.FileLaws.{one_part}
 use Rattle.dest_map.specs.Table.{counts_of}
 use Rattle.pair_sched.specs.Marks.{joined_of, newest_of}
-use Rattle.manifest.specs.declared.types.Manifest.{Manifest}
-use Rattle.manifest.specs.Spelling.{Fits}
+use Rattle.manifest_codec.specs.declared.types.Manifest.{Manifest}
+use Rattle.manifest_codec.specs.Spelling.{Fits}
 use Rattle.store_law.specs.Listed.{AreListed, ends_of, expect_of, part_file, part_of, state_in}
 use Rattle.store_law.proofs.Intervals.{listed_partitions}
 use Rattle.open_store.specs.Reading.{count_into}

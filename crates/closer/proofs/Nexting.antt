@@ -12,9 +12,9 @@ use Rattle.closing_machine.proofs.Rounding.{rounds_grow}
 use Rattle.disk_model.specs.Disk.{Contents}
 use Rattle.partition_file.specs.Spelling.{IsPart, Part, Spells}
 use Rattle.dest_map.specs.Table.{counts_of}
-use Rattle.manifest.specs.declared.types.PartEntry.{PartEntry}
-use Rattle.manifest.specs.declared.types.Manifest.{Manifest}
-use Rattle.manifest.specs.Spelling.{Fits, IsMap}
+use Rattle.manifest_codec.specs.declared.types.PartEntry.{PartEntry}
+use Rattle.manifest_codec.specs.declared.types.Manifest.{Manifest}
+use Rattle.manifest_codec.specs.Spelling.{Fits, IsMap}
 use Rattle.store_law.specs.Listed.{ends_of, part_file, part_of}
 use Rattle.row_table.specs.declared.span.Span.{Span}
 use Rattle.row_table.specs.Loaded.{span_of}

@@ -14,8 +14,8 @@ use Rattle.partition_file.specs.Spelling.{newest_format, Part, Spells, spelling}
 use Rattle.dest_map.specs.Table.{entry}
 use Rattle.dest_map.proofs.TableLemmas.{entry_set}
 use Rattle.pair_sched.specs.Marks.{newest_of}
-use Rattle.manifest.specs.declared.types.PartEntry.{PartEntry}
-use Rattle.manifest.specs.declared.types.Manifest.{Manifest}
+use Rattle.manifest_codec.specs.declared.types.PartEntry.{PartEntry}
+use Rattle.manifest_codec.specs.declared.types.Manifest.{Manifest}
 use Rattle.store_law.specs.Listed.{ends_of, part_file}
 use Rattle.store_law.specs.Steps.{IsFree}
 use Rattle.open_store.specs.declared.fault.StoreFault.{StoreFault}

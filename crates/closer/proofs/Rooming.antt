@@ -11,7 +11,7 @@ use Rattle.closing_machine.specs.PairRun.{IsPairRun}
 use Rattle.closing_machine.proofs.Going.{rounds_longer}
 use Rattle.closing_machine.proofs.Members.{All-from_members, either}
 use Rattle.partition_file.specs.Spelling.{IsPart, Part}
-use Rattle.manifest.specs.Spelling.{width}
+use Rattle.manifest_codec.specs.Spelling.{width}
 use Rattle.store_law.specs.Listed.{ends_of}
 use Rattle.row_table.specs.Loaded.{IsLoaded, Loaded, StandsBehind, loaded_of}
 use Rattle.superstep.specs.Room.{IsInFormat, capacity_of}

@@ -1,8 +1,8 @@
 -- Manifests of the same texts.
 use Rattle.std.proofs.Common.{◌≡◌, ◌∙◌, ap, refl, sym, subst, take, ℕ, List}
 use Rattle.disk_model.specs.Disk.{Contents}
-use Rattle.manifest.specs.declared.types.Manifest.{Manifest}
-use Rattle.manifest.specs.Same.{AreOfSameTexts}
+use Rattle.manifest_codec.specs.declared.types.Manifest.{Manifest}
+use Rattle.manifest_codec.specs.Same.{AreOfSameTexts}
 use Rattle.store_law.specs.Steps.{KeepsCopies}
 
 pub same_here : (m : Manifest) → AreOfSameTexts m m

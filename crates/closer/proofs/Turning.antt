@@ -13,10 +13,10 @@ use Rattle.closing_machine.proofs.Members.{either}
 use Rattle.partition_file.specs.Spelling.{IsPart}
 use Rattle.dest_map.specs.Table.{counts_of}
 use Rattle.pair_sched.specs.Marks.{joined_of, newest_of}
-use Rattle.manifest.specs.declared.types.PartEntry.{PartEntry}
-use Rattle.manifest.specs.declared.types.Manifest.{Manifest}
-use Rattle.manifest.specs.Spelling.{Cover, Fits, width}
-use Rattle.manifest.specs.Same.{AreOfSameTexts}
+use Rattle.manifest_codec.specs.declared.types.PartEntry.{PartEntry}
+use Rattle.manifest_codec.specs.declared.types.Manifest.{Manifest}
+use Rattle.manifest_codec.specs.Spelling.{Cover, Fits, width}
+use Rattle.manifest_codec.specs.Same.{AreOfSameTexts}
 use Rattle.manifest_switch.specs.Slots.{next_generation}
 use Rattle.store_law.specs.Listed.{ends_of, part_of}
 use Rattle.open_store.specs.Reading.{count_into}

@@ -10,9 +10,9 @@ use Rattle.closing_machine.specs.Tells.{Tells}
 use Rattle.disk_model.specs.Disk.{Contents}
 use Rattle.dest_map.specs.Table.{counts_of}
 use Rattle.pair_sched.specs.Marks.{joined_of, newest_of}
-use Rattle.manifest.specs.declared.types.Manifest.{Manifest}
-use Rattle.manifest.specs.Spelling.{Fits}
-use Rattle.manifest.specs.Same.{AreOfSameTexts}
+use Rattle.manifest_codec.specs.declared.types.Manifest.{Manifest}
+use Rattle.manifest_codec.specs.Spelling.{Fits}
+use Rattle.manifest_codec.specs.Same.{AreOfSameTexts}
 use Rattle.manifest_switch.specs.declared.slot.Slot.{Slot}
 use Rattle.manifest_switch.specs.declared.slot.Found.TheVariants.{At}
 use Rattle.manifest_switch.specs.Slots.{current_of}
@@ -38,8 +38,11 @@ pub record Continues (n : Normal) (k : ℕ) (c : Contents) (m : Manifest) (d : C
   pub fits : Fits next
   pub same : AreOfSameTexts m next
   pub copies : KeepsCopies m c d
-  pub steps : (parts : List (List Born)) → AreListed c m n.fresh parts → Tells (counts_of m.map) (joined_of m.marks) (newest_of m.marks) (state_in m parts)
-      → (after : List (List Born)) × AreListed d next n.fresh after × Tells (counts_of next.map) (joined_of next.marks) (newest_of next.marks) (state_in next after) × AfterSteps n k (state_in m parts) (state_in next after)
+  pub steps : (parts : List (List Born)) → AreListed c m n.fresh parts
+      → Tells (counts_of m.map) (joined_of m.marks) (newest_of m.marks) (state_in m parts)
+      → (after : List (List Born)) × AreListed d next n.fresh after
+          × Tells (counts_of next.map) (joined_of next.marks) (newest_of next.marks) (state_in next after)
+          × AfterSteps n k (state_in m parts) (state_in next after)
 
 -- a crash leaves the manifest m current, with the copies and all files that it names
 pub record Retains (m : Manifest) (old new : Contents) : Type 0 where

@@ -11,10 +11,10 @@ use Rattle.disk_model.specs.declared.form_kind.FormKind.{FormKind}
 use Rattle.partition_file.specs.Spelling.{Fits, IsPart, Part, Spells}
 use Rattle.dest_map.specs.Table.{counts_of}
 use Rattle.pair_sched.specs.Marks.{joined_of, newest_of}
-use Rattle.manifest.specs.declared.types.Manifest.{Manifest}
-use Rattle.manifest.specs.declared.types.PartEntry.{PartEntry}
-use Rattle.manifest.specs.Spelling.{AreMarks, IsMap}
-use Rattle.manifest.specs.Same.{AreOfSameTexts}
+use Rattle.manifest_codec.specs.declared.types.Manifest.{Manifest}
+use Rattle.manifest_codec.specs.declared.types.PartEntry.{PartEntry}
+use Rattle.manifest_codec.specs.Spelling.{AreMarks, IsMap}
+use Rattle.manifest_codec.specs.Same.{AreOfSameTexts}
 use Rattle.manifest_switch.specs.Slots.{next_generation}
 use Rattle.store_law.specs.Listed.{ends_of, part_file, part_of}
 use Rattle.row_table.specs.Loaded.{loaded_of}
@@ -59,7 +59,8 @@ pub record AreRun (n : Normal) (since round : ℕ) (p : Part) (q : Option Part) 
   pub high_is : (loaded_of p' q').high ≡ (loaded_of p q).high
   pub low_part : IsPart p'
   pub high_part : IfHigh q' IsPart
-  pub run : (budget : ℕ) → length (loaded_of p' q').edges ≤ budget → IsPairRun n (loaded_of p q).edges since round budget true k (loaded_of p' q').edges
+  pub run : (budget : ℕ) → length (loaded_of p' q').edges ≤ budget
+      → IsPairRun n (loaded_of p q).edges since round budget true k (loaded_of p' q').edges
   pub format : All IsInFormat (loaded_of p' q').edges
   pub room : round + k < 2 ^ 64
 

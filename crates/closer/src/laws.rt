@@ -2,7 +2,7 @@
 ghost use Rattle.std.specs.Prelude.{◌≡◌, ℕ, List};
 ghost use Rattle.graph_words.specs.declared.types.Born.{Born as ABorn};
 ghost use Rattle.disk_model.specs.Disk.{Contents};
-ghost use Rattle.manifest.specs.declared.types.Manifest.{Manifest as AManifest};
+ghost use Rattle.manifest_codec.specs.declared.types.Manifest.{Manifest as AManifest};
 ghost use Rattle.store_law.specs.Texts.{Texts, normal, rules};
 ghost use Rattle.store_law.specs.Listed.{state_in};
 ghost use Rattle.store_law.specs.Left.{IsLeft, IsOfTexts, IsStore, IsStoreOf};
@@ -12,13 +12,17 @@ ghost use Rattle.closer.specs.Continuing.{AfterSteps, Continues, GoesOn, Retains
 
 /// A store of two texts is one still after steps of its closing.
 pub fn steps_keep_a_store()
-    ensures { (t : Texts) (c d : Contents) (k : ℕ) (m next : AManifest) (parts : List (List ABorn)) → IsStoreOf t c m parts → Continues (normal t) k c m d next → (after : List (List ABorn)) × IsStoreOf t d next after × AfterSteps (normal t) k (state_in m parts) (state_in next after) }
+    ensures { (t : Texts) (c d : Contents) (k : ℕ) (m next : AManifest) (parts : List (List ABorn))
+        → IsStoreOf t c m parts → Continues (normal t) k c m d next → (after : List (List ABorn))
+        × IsStoreOf t d next after × AfterSteps (normal t) k (state_in m parts) (state_in next after) }
 {}
 
 /// What a stopped closing leaves of a store of two texts is a store of them: the same one, or one that goes on from it.
 pub fn stops_leave_a_store()
-    ensures kept { (t : Texts) (d c : Contents) (m : AManifest) (parts : List (List ABorn)) → IsStore t d m parts → Retains m d c → IsStore t c m parts }
-    ensures further { (t : Texts) (seen c : Contents) (m : AManifest) (parts : List (List ABorn)) → IsStoreOf t seen m parts → GoesOn (normal t) seen m c → IsLeft t c }
+    ensures kept { (t : Texts) (d c : Contents) (m : AManifest) (parts : List (List ABorn)) → IsStore t d m parts
+        → Retains m d c → IsStore t c m parts }
+    ensures further { (t : Texts) (seen c : Contents) (m : AManifest) (parts : List (List ABorn))
+        → IsStoreOf t seen m parts → GoesOn (normal t) seen m c → IsLeft t c }
 {}
 
 /// A store of two texts that is held has the rules that the grammar's text says.
@@ -33,5 +37,7 @@ ghost use Rattle.open_store.specs.Reading.{IsRefused};
 
 /// No partition of a store of two texts is refused.
 pub fn stores_are_not_refused()
-    ensures { (t : Texts) (s : OpenStore) (c : Contents) (parts : List (List ABorn)) → IsStoreOf t c s.manifest parts → s.rules ≡ rules t → (i place : ℕ) (kind : AKind) → i < length s.manifest.parts → IsRefused s i (c (part_file s.manifest i)) place kind → ⊥ }
+    ensures { (t : Texts) (s : OpenStore) (c : Contents) (parts : List (List ABorn))
+        → IsStoreOf t c s.manifest parts → s.rules ≡ rules t → (i place : ℕ) (kind : AKind)
+        → i < length s.manifest.parts → IsRefused s i (c (part_file s.manifest i)) place kind → ⊥ }
 {}

@@ -9,7 +9,7 @@ ghost use Rattle.open_store.specs.Store.{IsOpenStore};
 ghost use Rattle.closer.specs.Making.{IsMarked, Refiles};
 
 use dest_map::DestMap;
-use manifest::{Manifest, PartEntry, PartList};
+use manifest_codec::{Manifest, PartEntry, PartList};
 use open_store::Store;
 use pair_sched::Marks;
 use std::alloc::{AllocError, Global};

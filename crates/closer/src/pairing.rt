@@ -1,17 +1,17 @@
 //! One or two partitions are loaded, and rounds are run on them.
 ghost use Rattle.std.specs.Prelude.{◌≡◌, ◌⊎◌, ◌^◌, ◌<◌, ◌≤◌, ℕ, IsTrue, true, IfOk, length};
+ghost use Rattle.disk_model.specs.View.{OnlyLooks};
 ghost use Rattle.normal_law.specs.NormalForm.{normal_form};
 ghost use Rattle.dest_map.specs.Table.{counts_of};
 ghost use Rattle.pair_sched.specs.Marks.{joined_of};
-ghost use Rattle.manifest.specs.Spelling.{Fits};
-ghost use Rattle.manifest_switch.specs.Looks.{OnlyLooks};
+ghost use Rattle.manifest_codec.specs.Spelling.{Fits};
 ghost use Rattle.open_store.specs.Answers.{HasDiskCause};
 ghost use Rattle.partition_file.specs.Spelling.{IsPart};
 ghost use Rattle.superstep.specs.Ends.{is_closed, rounds_of};
 ghost use Rattle.closer.specs.Making.{ArePairIn, AreRun, AreSpelled, BlamesPair, IfHigh, IsLeastMarkIn};
 
 use disk_model::Disk;
-use manifest::Manifest;
+use manifest_codec::Manifest;
 use open_store::{Store, StoreFault};
 use partition_file::Partition;
 use row_table::Rows;
@@ -39,7 +39,7 @@ pub(crate) fn load_pair<D: Disk>(
     requires high { high < length store.now.manifest.parts }
     ensures loaded { IfOk result (λ p. ArePairIn store.now low high p.0 p.1) }
     ensures spelled { IsTrue D.tells → IfOk result (λ p. AreSpelled store.now (D.seen disk.old) low high p.0 p.1) }
-    ensures looks { OnlyLooks D.seen D.may_leave D.moment D.left_since disk.old disk.new }
+    ensures looks { OnlyLooks D.Disk disk.old disk.new }
     ensures later { D.faults disk.old ≤ D.faults disk.new }
     ensures cause { HasDiskCause (D.faults disk.old) (D.faults disk.new) (BlamesPair store.now D.tells (D.seen disk.old) low high) result }
 {

@@ -1,7 +1,7 @@
 //! Changed partitions are put into free files.
 ghost use Rattle.std.specs.Prelude.{◌≡◌, ◌≢◌, ◌<◌, ◌≤◌, IsTrue, true, false, All, Contains, IfOk, length};
 ghost use Rattle.graph_words.specs.declared.types.Born.{Born as ABorn};
-ghost use Rattle.disk_model.specs.Crash.{LeavesOnly, From};
+ghost use Rattle.disk_model.specs.View.{LeavesBy};
 ghost use Rattle.pair_sched.specs.Marks.{newest_of};
 ghost use Rattle.open_store.specs.Answers.{HasDiskCause, blames_none};
 ghost use Rattle.closer.specs.Making.{ArePut, IsWell, MayPut, MayPutPair, Puts, Replaces, Spares, TakesOn};
@@ -10,7 +10,7 @@ use crate::making::{file_for, with_file, with_row};
 use crate::pairing::Ran;
 use disk_model::Disk;
 use graph_words::Born;
-use manifest::Manifest;
+use manifest_codec::Manifest;
 use open_store::{Store, StoreFault, Tally};
 use partition_file::Partition;
 use std::alloc::{AllocError, Global};
@@ -65,7 +65,7 @@ pub(crate) fn put_changed<D: Disk>(
     requires may { MayPut store.now D.tells (D.seen disk.old) i part.now next }
     ensures takes { IfOk result (TakesOn store.now.manifest.round i part.now.edges next) }
     ensures puts { IsTrue D.tells → IfOk result (λ after. Puts store.now.manifest i part.now next after (D.seen disk.old) (D.seen disk.new)) }
-    ensures any_moment { LeavesOnly D.moment D.left_since disk.old disk.new (From (D.may_leave disk.old) (Spares store.now.manifest)) }
+    ensures any_moment { LeavesBy D.Disk disk.old disk.new (Spares store.now.manifest) }
     ensures later { D.faults disk.old ≤ D.faults disk.new }
     ensures cause { HasDiskCause (D.faults disk.old) (D.faults disk.new) blames_none result }
 {
@@ -90,8 +90,9 @@ pub(crate) fn put_pair<D: Disk>(
     ran: &Ran,
 ) -> Result<Manifest, StoreFault>
     requires may { MayPutPair store.now D.tells (D.seen disk.old) low high ran.now.low ran.now.high next }
-    ensures put { IfOk result (λ after. ArePut store.now.manifest D.tells low high ran.now.low ran.now.high next (D.seen disk.old) after (D.seen disk.new)) }
-    ensures any_moment { LeavesOnly D.moment D.left_since disk.old disk.new (From (D.may_leave disk.old) (Spares store.now.manifest)) }
+    ensures put { IfOk result (λ after. ArePut store.now.manifest D.tells low high ran.now.low ran.now.high next
+        (D.seen disk.old) after (D.seen disk.new)) }
+    ensures any_moment { LeavesBy D.Disk disk.old disk.new (Spares store.now.manifest) }
     ensures later { D.faults disk.old ≤ D.faults disk.new }
     ensures cause { HasDiskCause (D.faults disk.old) (D.faults disk.new) blames_none result }
 {

@@ -1,7 +1,7 @@
 //! One step of closing.
 ghost use Rattle.std.specs.Prelude.{◌≡◌, ◌<◌, ◌≤◌, IfOk, length};
 ghost use Rattle.disk_model.specs.Disk.{Contents};
-ghost use Rattle.disk_model.specs.Crash.{LeavesOnly, From};
+ghost use Rattle.disk_model.specs.View.{LeavesBy};
 ghost use Rattle.dest_map.specs.Table.{counts_of};
 ghost use Rattle.open_store.specs.Answers.{HasDiskCause};
 ghost use Rattle.open_store.specs.Store.{IsHeldAlone};
@@ -14,7 +14,7 @@ use crate::options::RunOptions;
 use crate::pairing::{least_mark, load_pair, run_loaded};
 use crate::putting::put_pair;
 use disk_model::Disk;
-use manifest::Manifest;
+use manifest_codec::Manifest;
 use open_store::{Store, StoreFault};
 use pair_sched::pick;
 use std::alloc::Global;
@@ -47,7 +47,7 @@ fn close_pair<D: Disk>(
     requires j { j < length store.now.manifest.parts }
     requires some { 0 < counts_of store.now.manifest.map i j }
     ensures next { IfOk result (IsNext store.now D.tells (D.seen disk.old) (D.seen disk.new) i j) }
-    ensures any_moment { LeavesOnly D.moment D.left_since disk.old disk.new (From (D.may_leave disk.old) (Spares store.now.manifest)) }
+    ensures any_moment { LeavesBy D.Disk disk.old disk.new (Spares store.now.manifest) }
     ensures later { D.faults disk.old ≤ D.faults disk.new }
     ensures cause { HasDiskCause (D.faults disk.old) (D.faults disk.new) (BlamesPair store.now D.tells (D.seen disk.old) i j) result }
 {
@@ -85,7 +85,7 @@ pub fn step<D: Disk>(
     requires held { (c : Contents) → D.may_leave disk.old c → IsHeldAlone store c }
     ensures finished { IfOk result (λ r. IfFinished r (λ s. (s ≡ store) × IsDone store.manifest × (disk.new ≡ disk.old))) }
     ensures again { IfOk result (λ r. IfAgain r (IsStepped D.tells (D.seen disk.old) store (D.seen disk.new) (D.may_leave disk.new))) }
-    ensures any_moment { LeavesOnly D.moment D.left_since disk.old disk.new (From (D.may_leave disk.old) (Moves store (D.seen disk.old))) }
+    ensures any_moment { LeavesBy D.Disk disk.old disk.new (Moves store (D.seen disk.old)) }
     ensures later { D.faults disk.old ≤ D.faults disk.new }
     ensures cause { HasDiskCause (D.faults disk.old) (D.faults disk.new) (BlamesPicked store D.tells (D.seen disk.old)) result }
 {

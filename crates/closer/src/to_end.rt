@@ -1,7 +1,7 @@
 //! Steps of closing until no pair has work left.
 ghost use Rattle.std.specs.Prelude.{◌≡◌, ◌≤◌, IfOk};
 ghost use Rattle.disk_model.specs.Disk.{Contents};
-ghost use Rattle.disk_model.specs.Crash.{From, LeavesOnly};
+ghost use Rattle.disk_model.specs.View.{LeavesBy};
 ghost use Rattle.store_law.specs.Left.{IsDone};
 ghost use Rattle.open_store.specs.Answers.{HasDiskCause};
 ghost use Rattle.open_store.specs.Store.{IsHeldAlone};
@@ -29,7 +29,7 @@ pub fn run_to_end<D: Disk>(
     requires held { (c : Contents) → D.may_leave disk.old c → IsHeldAlone store c }
     ensures closed { IfOk result (IsClosed D.tells (D.seen disk.old) (D.may_leave disk.old) store (D.seen disk.new) (D.may_leave disk.new)) }
     ensures rest { IsDone store.manifest → IfOk result (λ s. (s ≡ store) × (disk.new ≡ disk.old)) }
-    ensures any_moment { LeavesOnly D.moment D.left_since disk.old disk.new (From (D.may_leave disk.old) (Moves store (D.seen disk.old))) }
+    ensures any_moment { LeavesBy D.Disk disk.old disk.new (Moves store (D.seen disk.old)) }
     ensures later { D.faults disk.old ≤ D.faults disk.new }
     ensures cause { HasDiskCause (D.faults disk.old) (D.faults disk.new) (BlamesOnTheWay store D.tells (D.seen disk.old)) result }
 {

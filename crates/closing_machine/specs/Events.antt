@@ -36,7 +36,8 @@ at_rest g s = record { kept = record { graph = g; state = s }; next = record { g
 
 -- what the event may make of the machine
 abbrev pub Happens : Normal → Machine → Event → Machine → Type 0
-Happens n m (Superstep i j k closed) after = (after.kept ≡ m.kept) × (after.next.graph ≡ m.next.graph) × IsSuperstep n i j k closed m.next.state after.next.state
+Happens n m (Superstep i j k closed) after = (after.kept ≡ m.kept) × (after.next.graph ≡ m.next.graph)
+    × IsSuperstep n i j k closed m.next.state after.next.state
 Happens n m (Split i at) after = (after.kept ≡ m.kept) × (after.next.graph ≡ m.next.graph) × IsSplit i at m.next.state after.next.state
 Happens n m (Add g) after = (after.kept ≡ m.kept) × (after.next.graph ≡ g) × IsTask n g × IsAdd n m.next.graph g m.next.state after.next.state
 Happens n m Switch after = (after.kept ≡ m.next) × (after.next ≡ m.next)

@@ -55,4 +55,6 @@ pub record IsRound (n : Normal) (edges : List Born) (since : ℕ) (new : List Ed
 -- Each adds some edge and gives its edges the next birth. After k of them the edges are these, and a further round would go over joins since last
 pub data Rounds (n : Normal) (start : List Born) (since birth : ℕ) : ℕ → List Born → ℕ → Type 0 where
   begun : Rounds n start since birth 0 start since
-  again : {k last : ℕ} {rows after : List Born} → (new : List Edge) → Rounds n start since birth k rows last → IsRound n rows last new → 0 < length new → IsInOrder (rows ++ all_born new (birth + k)) after → Rounds n start since birth (suc k) after (birth + k)
+  again : {k last : ℕ} {rows after : List Born} → (new : List Edge) → Rounds n start since birth k rows last
+      → IsRound n rows last new → 0 < length new → IsInOrder (rows ++ all_born new (birth + k)) after
+      → Rounds n start since birth (suc k) after (birth + k)

@@ -20,7 +20,8 @@ pub data Cuts : List (List ℕ) → List Given → List (List ℕ) → Type 0 wh
   -- no word is left
   none : Cuts [] [] []
   -- a plain word
-  plain : {word : List ℕ} {words : List (List ℕ)} {options : List Given} {plains : List (List ℕ)} → is_dashed word ≡ false → Cuts words options plains → Cuts (word ∷ words) options (word ∷ plains)
+  plain : {word : List ℕ} {words : List (List ℕ)} {options : List Given} {plains : List (List ℕ)}
+      → is_dashed word ≡ false → Cuts words options plains → Cuts (word ∷ words) options (word ∷ plains)
   -- `--name=value`, at the first '='
   joined : {word : List ℕ} {words : List (List ℕ)} {options : List Given} {plains : List (List ℕ)} (name value : List ℕ) → word ≡ codes "--" ++ (name ++ (codes "=" ++ value)) → (Contains name 61 → ⊥) → Cuts words options plains → Cuts (word ∷ words) (given name value ∷ options) plains
   -- `--name` and its value, which is the next word

@@ -72,7 +72,8 @@ fn asked_words(
     part_edges: Option<&str>,
     budget: Option<&str>,
 ) -> Result<Vec<String>, AllocError>
-    ensures { IfOk result (λ words. map string_bytes words.items ≡ asked (option_copied workers.entry) (option_copied part_edges.entry) (option_copied budget.entry)) }
+    ensures { IfOk result (λ words. map string_bytes words.items
+        ≡ asked (option_copied workers.entry) (option_copied part_edges.entry) (option_copied budget.entry)) }
 {
     let mut words = Vec::new(alloc);
     words.push(String::from_str(alloc, "run")?)?;
@@ -133,7 +134,9 @@ pub(crate) fn ask_numbers(
     requires part_edges { IfSome (option_copied part_edges) IsDigits }
     requires budget { IfSome (option_copied budget) IsDigits }
     ensures numbers { IfOk result (GiveNumbers (option_copied workers.entry) (option_copied part_edges.entry) (option_copied budget.entry)) }
-    ensures words { IfErr result (λ e. e ≡ Words → (n : Numbers) → GiveNumbers (option_copied workers.entry) (option_copied part_edges.entry) (option_copied budget.entry) n → ⊥) }
+    ensures words { IfErr result (λ e. e ≡ Words → (n : Numbers)
+        → GiveNumbers (option_copied workers.entry) (option_copied part_edges.entry) (option_copied budget.entry) n
+        → ⊥) }
 {
     let words = asked_words(alloc, workers, part_edges, budget)?;
     let matches = ask(alloc, words.as_slice())?;

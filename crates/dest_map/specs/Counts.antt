@@ -22,6 +22,8 @@ cut_ends ends i at = take i ends ++ at ∷ drop i ends
 pub record AreShares (ends : List ℕ) (edges : List Born) (i at : ℕ) (row column corner : List ℕ) : Type 0 where
   pub there : i < length ends
   pub below : at < high ends i
-  pub row_is : (j : ℕ) → j < length ends → (j ≡ i → ⊥) → slice_index_or row j 0 ≡ count_by (λ b. part (cut_ends ends i at) b == i && target ends b == j) edges
-  pub column_is : (j : ℕ) → j < length ends → (j ≡ i → ⊥) → slice_index_or column j 0 ≡ count_by (λ b. part ends b == j && target (cut_ends ends i at) b == i) edges
+  pub row_is : (j : ℕ) → j < length ends → (j ≡ i → ⊥)
+      → slice_index_or row j 0 ≡ count_by (λ b. part (cut_ends ends i at) b == i && target ends b == j) edges
+  pub column_is : (j : ℕ) → j < length ends → (j ≡ i → ⊥)
+      → slice_index_or column j 0 ≡ count_by (λ b. part ends b == j && target (cut_ends ends i at) b == i) edges
   pub corner_is : (a b : ℕ) → a < 2 → b < 2 → slice_index_or corner (2 * a + b) 0 ≡ count_of (cut_ends ends i at) edges (i + a) (i + b)

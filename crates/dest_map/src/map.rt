@@ -77,7 +77,9 @@ impl DestMap {
         requires room { counts_of self.old i j + 1 < 2 ^ 64 }
         ensures size { self.new.0 ≡ self.old.0 }
         ensures entries { (a b : ℕ) → counts_of self.new a b ≡ (if a == i && b == j then counts_of self.old a b + 1 else counts_of self.old a b) }
-        ensures counts { (ends : List ℕ) (before after : List ABorn) (b : ABorn) → IsCountsOf ends before self.old → part ends b ≡ i → target ends b ≡ j → IsPermutation (b ∷ before) after → IsCountsOf ends after self.new }
+        ensures counts { (ends : List ℕ) (before after : List ABorn) (b : ABorn) → IsCountsOf ends before self.old
+            → part ends b ≡ i → target ends b ≡ j → IsPermutation (b ∷ before) after
+            → IsCountsOf ends after self.new }
     {
         let place = i * self.size + j;
         self.counts[place] += 1;
@@ -101,8 +103,11 @@ impl DestMap {
         requires part { IsPartOf (counts_of self.old) self.old.0 i low_row.now low_column.now }
         requires corner { sum corner ≡ counts_of self.old i i }
         ensures size { OnOk result (self.new.0 ≡ self.old.0 + 1) }
-        ensures entries { OnOk result ((a b : ℕ) → counts_of self.new a b ≡ split_count i low_row.now low_column.now corner (counts_of self.old) a b) }
-        ensures counts { OnOk result ((ends : List ℕ) (edges : List ABorn) (at : ℕ) → IsCountsOf ends edges self.old → AreShares ends edges i at low_row.now low_column.now corner → IsCountsOf (cut_ends ends i at) edges self.new) }
+        ensures entries { OnOk result ((a b : ℕ) → counts_of self.new a b
+            ≡ split_count i low_row.now low_column.now corner (counts_of self.old) a b) }
+        ensures counts { OnOk result ((ends : List ℕ) (edges : List ABorn) (at : ℕ) → IsCountsOf ends edges self.old
+            → AreShares ends edges i at low_row.now low_column.now corner
+            → IsCountsOf (cut_ends ends i at) edges self.new) }
         ensures err { OnErr result (self.new ≡ self.old) }
     {
         let size = self.size.checked_add(1).ok_or(AllocError)?;
@@ -131,7 +136,8 @@ impl DestMap {
         requires a { a ≤ self.now.0 }
         requires room { self.now.0 + 1 < 2 ^ 64 }
         requires before { IsFilled (split_count i low_row.now low_column.now corner.now (counts_of self.now)) (self.now.0 + 1) a 0 counts.old.items }
-        ensures { OnOk result (IsFilled (split_count i low_row.now low_column.now corner.now (counts_of self.now)) (self.now.0 + 1) (a + 1) 0 counts.new.items) }
+        ensures { OnOk result (IsFilled (split_count i low_row.now low_column.now corner.now (counts_of self.now))
+            (self.now.0 + 1) (a + 1) 0 counts.new.items) }
     {
         for b in 0..self.size + 1 {
             counts.push(self.split_count(i, low_row, low_column, corner, a, b))?;

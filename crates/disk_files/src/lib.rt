@@ -3,7 +3,7 @@
 
 ghost use Rattle.std.specs.Prelude.{◌≡◌, ◌<◌, IsTrue, OnOk};
 ghost use Rattle.disk_model.specs.Disk.{HasCause, Sets};
-ghost use Rattle.disk_model.specs.Crash.{LeavesOnly, From};
+ghost use Rattle.disk_model.specs.View.{LeavesBy};
 ghost use Rattle.disk_files.specs.Files.{OnlyFile};
 
 use disk_model::{Disk, Failed};
@@ -14,7 +14,7 @@ use disk_model::{Disk, Failed};
 /// There is no sync. `Failed` comes only where the disk's count rose.
 pub fn rewrite<D: Disk>(disk: &mut D, file: u32, bytes: &[u8]) -> Result<(), Failed>
     requires { file < 1024 }
-    ensures any_moment { LeavesOnly D.moment D.left_since disk.old disk.new (From (D.may_leave disk.old) (OnlyFile file)) }
+    ensures any_moment { LeavesBy D.Disk disk.old disk.new (OnlyFile file) }
     ensures written { IsTrue D.tells → OnOk result (Sets file bytes.now (D.seen disk.old) (D.seen disk.new)) }
     ensures cause { HasCause (D.faults disk.old) (D.faults disk.new) result }
 {

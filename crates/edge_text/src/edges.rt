@@ -2,6 +2,7 @@
 ghost use Rattle.std.specs.Prelude.{◌≡◌, ◌<◌, ◌≤◌, ◌^◌, ℕ, List, Some, IfOk, IfErr, OnErr, [], true, length};
 ghost use Rattle.io_edge.specs.declared.kinds.InputKind.{InputKind as AKind};
 ghost use Rattle.io_edge.specs.Devices.{Rose};
+ghost use Rattle.io_edge.specs.View.{NoCountFalls};
 ghost use Rattle.graph_words.specs.Reach.{graph_with, IsGraph};
 ghost use Rattle.graph_words.specs.Text.{distinct};
 ghost use Rattle.edge_text.specs.EdgesText.{edges_fault, vertex_count_of, ReadsFile};
@@ -61,10 +62,11 @@ fn read_text<I: Inputs>(
     ensures edges { IfOk result (λ edges. (names : List (List ℕ)) → IsFed 0 names [] reader.old []
         → ReadsFile names (I.told inputs.old name.now) edges reader.new.table) }
     ensures fault { IfErr result (λ e. (line : ℕ) (kind : AKind) (file : List ℕ) (names : List (List ℕ)) → e ≡ EdgesFault.Text line kind
-        → I.told inputs.old name.now ≡ Some file → IsFed 0 names [] reader.old [] → edges_fault 0 names file ≡ Some (record { line = line; kind = kind })) }
+        → I.told inputs.old name.now ≡ Some file → IsFed 0 names [] reader.old []
+            → edges_fault 0 names file ≡ Some (record { line = line; kind = kind })) }
     ensures failed { IfErr result (λ e. e ≡ EdgesFault.ReadFailed → Rose (I.faults inputs.old name.now) (I.faults inputs.new name.now)) }
     ensures kept { I.told inputs.new ≡ I.told inputs.old }
-    ensures others { (other : List ℕ) → I.faults inputs.old other ≤ I.faults inputs.new other }
+    ensures others { NoCountFalls I.Inputs inputs.old inputs.new }
 {
     let mut edges = Vec::new(alloc);
     let mut place: u64 = 0;
@@ -73,10 +75,10 @@ fn read_text<I: Inputs>(
         if n == 0 {
             break;
         }
-        reader.feed(alloc, &piece[..n], &mut edges)?;
+        reader.feed(&piece[..n], &mut edges)?;
         place += n as u64;
     }
-    reader.finish(alloc, &mut edges)?;
+    reader.finish(&mut edges)?;
     Ok(EdgeList::from_vec(edges))
 }
 
@@ -95,10 +97,11 @@ pub fn read_edges<I: Inputs>(
     ensures edges { IfOk result (λ edges. (names : List (List ℕ)) → table.old ≡ distinct names
         → ReadsFile names (I.told inputs.old name.now) edges table.new) }
     ensures fault { IfErr result (λ e. (line : ℕ) (kind : AKind) (file : List ℕ) (names : List (List ℕ)) → e ≡ EdgesFault.Text line kind
-        → I.told inputs.old name.now ≡ Some file → table.old ≡ distinct names → edges_fault 0 names file ≡ Some (record { line = line; kind = kind })) }
+        → I.told inputs.old name.now ≡ Some file → table.old ≡ distinct names
+            → edges_fault 0 names file ≡ Some (record { line = line; kind = kind })) }
     ensures failed { IfErr result (λ e. e ≡ EdgesFault.ReadFailed → Rose (I.faults inputs.old name.now) (I.faults inputs.new name.now)) }
     ensures kept { I.told inputs.new ≡ I.told inputs.old }
-    ensures others { (other : List ℕ) → I.faults inputs.old other ≤ I.faults inputs.new other }
+    ensures others { NoCountFalls I.Inputs inputs.old inputs.new }
     ensures unread { OnErr result (table.new ≡ table.old) }
 {
     let mut piece = Vec::from_elem(alloc, 0, PIECE_LEN)?;

@@ -12,7 +12,7 @@ use fs_disk::FsDisk;
 use fs_inputs::FsInputs;
 use graspan_top::{Status, graspan};
 use help::{HELP, VERSION};
-use io_edge::{Sink, WriteSink};
+use io_edge::{Sink, OutSink};
 use std::io;
 use std::process::ExitCode;
 use std::rt::Files;
@@ -52,7 +52,7 @@ fn start<R: Files + AllocGlobal, O: Sink>(rt: &R, given: &ProgramWords, out: &mu
 }
 
 fn main(rt: HostRuntime) -> ExitCode {
-    let mut out = WriteSink::new(io::writer(&rt));
+    let mut out = OutSink::new(io::writer(&rt));
     let status = match program_words(&rt) {
         Ok(given) => start(&rt, &given, &mut out),
         Err(_) => refuse(&mut out, "fault memory\n", Status::NoMemory),

@@ -7,7 +7,7 @@ use Rattle.edge_text.specs.EdgesText.{edges_fault}
 use Rattle.grammar_norm.specs.GrammarText.{grammar_fault, grammar_names}
 use Rattle.disk_model.specs.Disk.{Contents, Rose as DiskRose}
 use Rattle.disk_model.specs.declared.form_kind.FormKind.{FormKind}
-use Rattle.manifest.specs.declared.types.Manifest.{Manifest}
+use Rattle.manifest_codec.specs.declared.types.Manifest.{Manifest}
 use Rattle.manifest_switch.specs.declared.slot.Slot.{Slot}
 use Rattle.manifest_switch.specs.declared.slot.Found.TheVariants.{At, Blank}
 use Rattle.manifest_switch.specs.Slots.{current_of}

@@ -10,7 +10,7 @@ use Rattle.graph_words.specs.declared.types.Born.{Born}
 use Rattle.query_text.specs.Text.{answers_text}
 use Rattle.disk_model.specs.Disk.{Contents, Rose as DiskRose}
 use Rattle.disk_model.specs.declared.form_kind.FormKind.{FormKind}
-use Rattle.manifest.specs.declared.types.Manifest.{Manifest}
+use Rattle.manifest_codec.specs.declared.types.Manifest.{Manifest}
 use Rattle.open_store.specs.declared.fault.StoreFault.TheVariants as stores
 use Rattle.open_store.specs.Store.{IsHeld, OpenStore}
 use Rattle.query_text.specs.declared.fault.AnswerFault.{AnswerFault}

@@ -8,7 +8,7 @@ use Rattle.io_edge.specs.Devices.{AppendsPrefix, Takes}
 use Rattle.normal_law.specs.NormalForm.{normal_form}
 use Rattle.closing_machine.specs.Parts.{all_edges}
 use Rattle.disk_model.specs.Disk.{Contents}
-use Rattle.manifest.specs.declared.types.Manifest.{Manifest}
+use Rattle.manifest_codec.specs.declared.types.Manifest.{Manifest}
 use Rattle.manifest_switch.specs.declared.slot.Found.TheVariants.{At}
 use Rattle.manifest_switch.specs.Slots.{current_of}
 use Rattle.store_law.specs.Left.{IsDone}

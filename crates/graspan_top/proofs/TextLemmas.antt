@@ -16,7 +16,7 @@ use Rattle.partition_file.proofs.FileLaws.{one_part}
 use Rattle.dest_map.specs.Table.{Comes, counts_of}
 use Rattle.pair_sched.specs.Marks.{joined_of, newest_of}
 use Rattle.pair_sched.specs.Picking.{IsLeastDirty}
-use Rattle.manifest.specs.declared.types.Manifest.{Manifest}
+use Rattle.manifest_codec.specs.declared.types.Manifest.{Manifest}
 use Rattle.manifest_switch.specs.declared.slot.Found.{Found}
 use Rattle.manifest_switch.specs.declared.slot.Found.TheVariants.{At, Blank}
 use Rattle.manifest_switch.specs.declared.slot.OpenFault.{OpenFault}

@@ -10,7 +10,9 @@ use Rattle.graspan_top.specs.declared.status.Status.{Status}
 
 -- why the command has this answer: reads_rose says of a name that its count of faults rose
 abbrev pub Explains : Given → Contents → (List ℕ → Type 0) → Type 0 → Type 0 → Said → Status → Type 0
-Explains x after reads_rose disk_rose out_rose (run edges grammar options show) status = RunExplains x edges grammar show after (reads_rose edges) (reads_rose grammar) disk_rose out_rose status
+Explains x after reads_rose disk_rose out_rose
+    (run edges grammar options show) status = RunExplains x edges grammar show after (reads_rose edges)
+    (reads_rose grammar) disk_rose out_rose status
 Explains x after reads_rose disk_rose out_rose (query label from to) status = QueryExplains x label from to disk_rose out_rose status
 Explains x after reads_rose disk_rose out_rose dump status = DumpExplains x disk_rose out_rose status
 Explains x after reads_rose disk_rose out_rose parts status = PartsExplains x disk_rose out_rose status

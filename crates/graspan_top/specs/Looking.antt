@@ -12,7 +12,7 @@ use Rattle.partition_file.specs.Spelling.{Fits, Spells}
 use Rattle.dest_map.specs.Table.{counts_of}
 use Rattle.pair_sched.specs.Marks.{joined_of, newest_of}
 use Rattle.pair_sched.specs.Picking.{IsLeastDirty}
-use Rattle.manifest.specs.declared.types.Manifest.{Manifest}
+use Rattle.manifest_codec.specs.declared.types.Manifest.{Manifest}
 use Rattle.manifest_switch.specs.declared.slot.Slot.{Slot}
 use Rattle.manifest_switch.specs.declared.slot.Found.TheVariants.{At, Blank}
 use Rattle.manifest_switch.specs.Slots.{current_of}
@@ -53,7 +53,8 @@ IsUnfinished m i j = IsLeastDirty (counts_of m.map) (joined_of m.marks) (newest_
 -- why a file of the store is blamed: opening refuses it, or it is the first of the wanted partitions that is refused, of a store that may be printed
 pub data LookBlames (c : Contents) (w : Wants) (Ready : Manifest → Type 0) : ℕ → ℕ → FormKind → Type 0 where
   opening : {file place : ℕ} {kind : FormKind} → IsBadStore c file place kind → LookBlames c w Ready file place kind
-  loading : {file place : ℕ} {kind : FormKind} (s : OpenStore) → IsHeld s c → Ready s.manifest → IsBlamed s true c (w.first s) (w.number s) file place kind → LookBlames c w Ready file place kind
+  loading : {file place : ℕ} {kind : FormKind} (s : OpenStore) → IsHeld s c → Ready s.manifest
+      → IsBlamed s true c (w.first s) (w.number s) file place kind → LookBlames c w Ready file place kind
 
 -- Why a command that only reads answers as it does, by what a read gives. Ready says of a manifest that the command may print it, and Unknown that what is asked isn't there. The last two say that a count of faults rose.
 abbrev pub LookExplains : Given → Wants → (Manifest → Type 0) → (Manifest → ℕ → ℕ → Type 0) → (Manifest → Type 0) → Type 0 → Type 0 → Status → Type 0
@@ -151,4 +152,5 @@ pub record IsUnknownIn (label : List ℕ) (from : ℕ) (to : Option ℕ) (m : Ma
   pub lacks : (Contains m.labels label → ⊥) ⊎ (AreVerticesOf m from to → ⊥)
 
 abbrev pub QueryExplains : Given → List ℕ → ℕ → Option ℕ → Type 0 → Type 0 → Status → Type 0
-QueryExplains x label from to disk_rose out_rose status = LookExplains x (wants_one from) (IsKnownIn label from to) IsUnfinished (IsUnknownIn label from to) disk_rose out_rose status
+QueryExplains x label from to disk_rose out_rose status = LookExplains x (wants_one from)
+    (IsKnownIn label from to) IsUnfinished (IsUnknownIn label from to) disk_rose out_rose status

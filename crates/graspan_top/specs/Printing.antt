@@ -70,9 +70,12 @@ Begins known IsBegun old new status = Unit {0}
 -- the same, and then the line of the fault
 abbrev pub BeginsWhole : Bool → (List ℕ → Type 0) → Option (List ℕ) → Option (List ℕ) → Type 0 → Status → Type 0
 BeginsWhole known IsBegun old new out_rose WriteFault = TakesBegun known IsBegun old new
-BeginsWhole known IsBegun old new out_rose DiskFault = (mid : Option (List ℕ)) × TakesBegun known IsBegun old mid × TakesLine mid new out_rose (fault_line DiskFault)
-BeginsWhole known IsBegun old new out_rose (BadStore file place kind) = (mid : Option (List ℕ)) × TakesBegun known IsBegun old mid × TakesLine mid new out_rose (fault_line (BadStore file place kind))
-BeginsWhole known IsBegun old new out_rose NoMemory = (mid : Option (List ℕ)) × TakesBegun known IsBegun old mid × TakesLine mid new out_rose (fault_line NoMemory)
+BeginsWhole known IsBegun old new out_rose DiskFault = (mid : Option (List ℕ)) × TakesBegun known IsBegun old mid
+    × TakesLine mid new out_rose (fault_line DiskFault)
+BeginsWhole known IsBegun old new out_rose (BadStore file place kind) = (mid : Option (List ℕ))
+    × TakesBegun known IsBegun old mid × TakesLine mid new out_rose (fault_line (BadStore file place kind))
+BeginsWhole known IsBegun old new out_rose NoMemory = (mid : Option (List ℕ)) × TakesBegun known IsBegun old mid
+    × TakesLine mid new out_rose (fault_line NoMemory)
 BeginsWhole known IsBegun old new out_rose status = Unit {0}
 
 -- the line of the fault, and nothing where there is none or a write has failed

@@ -12,7 +12,7 @@ use Rattle.closing_machine.specs.Parts.{all_edges}
 use Rattle.disk_model.specs.Disk.{Contents}
 use Rattle.disk_model.specs.Crash.{LeavesOnly}
 use Rattle.disk_model.specs.declared.form_kind.FormKind.{FormKind}
-use Rattle.manifest.specs.declared.types.Manifest.{Manifest}
+use Rattle.manifest_codec.specs.declared.types.Manifest.{Manifest}
 use Rattle.manifest_switch.specs.declared.slot.Slot.{Slot}
 use Rattle.manifest_switch.specs.declared.slot.Found.TheVariants.{At, Blank}
 use Rattle.manifest_switch.specs.Slots.{current_of}
@@ -99,7 +99,8 @@ Accepts x edges grammar = IsNew x edges grammar ⊎ IsResumed x edges grammar
 -- The contents hold the open store. Where the disk held what stopped runs of these files leave, it is a store of them.
 pub record IsOpenedAs (x : Given) (edges grammar : List ℕ) (seen : Contents) (s : OpenStore) : Type 0 where
   pub held : IsHeld s seen
-  pub left : (g e : List ℕ) → x.told grammar ≡ Some g → x.told edges ≡ Some e → IsLeft (texts_of g e) x.before → (parts : List (List Born)) × IsStoreOf (texts_of g e) seen s.manifest parts
+  pub left : (g e : List ℕ) → x.told grammar ≡ Some g → x.told edges ≡ Some e → IsLeft (texts_of g e) x.before
+      → (parts : List (List Born)) × IsStoreOf (texts_of g e) seen s.manifest parts
 
 -- the contents with which the closing begins: those from before, but for the slots, or a store that was made on a blank disk
 abbrev pub BeginsWith : Given → Contents → Type 0
@@ -108,22 +109,31 @@ BeginsWith x seen = (current_of x.before ≡ Ok Blank) ⊎ Stays x.before seen
 -- ---- what a stopped run leaves
 
 -- Where each image at the start is blank or what stopped runs of these files leave, so is each that a crash may leave at any moment since.
-abbrev pub StopsLeave : {D : Type 0} → (D → Contents → Type 0) → (D → ℕ) → (D → ℕ → Contents → Type 0) → (List ℕ → Option (List ℕ)) → List ℕ → List ℕ → D → D → Type 0
-StopsLeave images moment left_since told edges grammar old new = (g e : List ℕ) → told grammar ≡ Some g → told edges ≡ Some e → ((c : Contents) → images old c → IsLeft (texts_of g e) c) → LeavesOnly moment left_since old new (IsLeft (texts_of g e))
+abbrev pub StopsLeave : {D : Type 0} → (D → Contents → Type 0) → (D → ℕ) → (D → ℕ → Contents → Type 0)
+    → (List ℕ → Option (List ℕ)) → List ℕ → List ℕ → D → D → Type 0
+StopsLeave images moment left_since told edges grammar old new = (g e : List ℕ) → told grammar ≡ Some g
+    → told edges ≡ Some e → ((c : Contents) → images old c → IsLeft (texts_of g e) c)
+    → LeavesOnly moment left_since old new (IsLeft (texts_of g e))
 
 -- ---- why a run answers as it does
 
 -- an open store's copy of a text differs from the file first at this place. Of the edges this is said where the grammar is the same.
 abbrev pub DiffersIn : Given → List ℕ → List ℕ → Manifest → InputFile → ℕ → Type 0
 DiffersIn x edges grammar m Grammar place = WhereTold (x.told grammar) (λ g. IsGoodGrammar g × DiffersFirst g (copy_of m Grammar x.before) place)
-DiffersIn x edges grammar m Edges place = WhereTold (x.told grammar) (λ g. IsGoodGrammar g × (g ≡ copy_of m Grammar x.before)) × WhereTold (x.told edges) (λ e. DiffersFirst e (copy_of m Edges x.before) place)
+DiffersIn x edges grammar m Edges place = WhereTold (x.told grammar)
+    (λ g. IsGoodGrammar g × (g ≡ copy_of m Grammar x.before))
+    × WhereTold (x.told edges) (λ e. DiffersFirst e (copy_of m Edges x.before) place)
 DiffersIn x edges grammar m _ place = ⊥
 
 -- why a file of the store is blamed: opening refuses it, or it names no partition where one is loaded for the closing or the printing
 pub data Blames (x : Given) (edges grammar : List ℕ) (after : Contents) : ℕ → ℕ → FormKind → Type 0 where
   opening : {file place : ℕ} {kind : FormKind} → IsBadStore x.before file place kind → Blames x edges grammar after file place kind
-  closing : {file place : ℕ} {kind : FormKind} (seen : Contents) (s : OpenStore) → BeginsWith x seen → IsOpenedAs x edges grammar seen s → BlamesOnTheWay s true seen file place kind → Blames x edges grammar after file place kind
-  printing : {file place : ℕ} {kind : FormKind} (s : OpenStore) → IsOpenedAs x edges grammar after s → IsBlamed s true after 0 (length s.manifest.parts) file place kind → Blames x edges grammar after file place kind
+  closing : {file place : ℕ} {kind : FormKind} (seen : Contents) (s : OpenStore) → BeginsWith x seen
+      → IsOpenedAs x edges grammar seen s → BlamesOnTheWay s true seen file place kind
+      → Blames x edges grammar after file place kind
+  printing : {file place : ℕ} {kind : FormKind} (s : OpenStore) → IsOpenedAs x edges grammar after s
+      → IsBlamed s true after 0 (length s.manifest.parts) file place kind
+      → Blames x edges grammar after file place kind
 
 -- the label that is shown has no number in the store that was closed
 pub record IsUnknown (c : Contents) (label : List ℕ) : Type 0 where
@@ -136,13 +146,25 @@ pub record IsUnknown (c : Contents) (label : List ℕ) : Type 0 where
 -- Why a run answers as it does. The last four say that a count of faults rose: for the edge file's name, for the grammar's, of the disk, and of what is printed to. Done, InputFault, OtherInput, NotKnown and WriteFault say that no refusal of the two files holds that comes before them; ReadFault of the edge file, DiskFault and BadStore say it of the grammar file alone.
 abbrev pub RunExplains : Given → List ℕ → List ℕ → Option (List ℕ) → Contents → Type 0 → Type 0 → Type 0 → Type 0 → Status → Type 0
 RunExplains x edges grammar show after edges_rose grammar_rose disk_rose out_rose Done = Accepts x edges grammar
-RunExplains x edges grammar show after edges_rose grammar_rose disk_rose out_rose (InputFault Grammar line kind) = WhereTold (x.told grammar) (λ g. grammar_fault g ≡ Some (record { line = line; kind = kind }))
-RunExplains x edges grammar show after edges_rose grammar_rose disk_rose out_rose (InputFault Edges line kind) = (IsTrue x.tells → current_of x.before ≡ Ok Blank) × WhereTold (x.told grammar) (λ g. IsGoodGrammar g × WhereTold (x.told edges) (λ e. edges_fault 0 (grammar_names g) e ≡ Some (record { line = line; kind = kind })))
-RunExplains x edges grammar show after edges_rose grammar_rose disk_rose out_rose (OtherInput file place) = IsTrue x.tells → (slot : Slot) × (m : Manifest) × (current_of x.before ≡ Ok (At slot m)) × DiffersIn x edges grammar m file place
-RunExplains x edges grammar show after edges_rose grammar_rose disk_rose out_rose ReadFault = grammar_rose ⊎ (WhereTold (x.told grammar) IsGoodGrammar × edges_rose)
+RunExplains x edges grammar show after edges_rose grammar_rose disk_rose out_rose
+    (InputFault Grammar line kind) = WhereTold (x.told grammar)
+    (λ g. grammar_fault g ≡ Some (record { line = line; kind = kind }))
+RunExplains x edges grammar show after edges_rose grammar_rose disk_rose out_rose (InputFault Edges line kind) =
+    (IsTrue x.tells → current_of x.before ≡ Ok Blank)
+    × WhereTold (x.told grammar) (λ g. IsGoodGrammar g
+    × WhereTold (x.told edges) (λ e. edges_fault 0 (grammar_names g) e
+    ≡ Some (record { line = line; kind = kind })))
+RunExplains x edges grammar show after edges_rose grammar_rose disk_rose out_rose
+    (OtherInput file place) = IsTrue x.tells → (slot : Slot) × (m : Manifest)
+    × (current_of x.before ≡ Ok (At slot m)) × DiffersIn x edges grammar m file place
+RunExplains x edges grammar show after edges_rose grammar_rose disk_rose out_rose ReadFault = grammar_rose
+    ⊎ (WhereTold (x.told grammar) IsGoodGrammar × edges_rose)
 RunExplains x edges grammar show after edges_rose grammar_rose disk_rose out_rose DiskFault = WhereTold (x.told grammar) IsGoodGrammar × disk_rose
-RunExplains x edges grammar show after edges_rose grammar_rose disk_rose out_rose (BadStore file place kind) = WhereTold (x.told grammar) IsGoodGrammar × (IsTrue x.tells → Blames x edges grammar after file place kind)
-RunExplains x edges grammar show after edges_rose grammar_rose disk_rose out_rose NotKnown = Accepts x edges grammar × ((label : List ℕ) × (show ≡ Some label) × (IsTrue x.tells → IsUnknown after label))
+RunExplains x edges grammar show after edges_rose grammar_rose disk_rose out_rose
+    (BadStore file place kind) = WhereTold (x.told grammar) IsGoodGrammar
+    × (IsTrue x.tells → Blames x edges grammar after file place kind)
+RunExplains x edges grammar show after edges_rose grammar_rose disk_rose out_rose NotKnown = Accepts x edges grammar
+    × ((label : List ℕ) × (show ≡ Some label) × (IsTrue x.tells → IsUnknown after label))
 RunExplains x edges grammar show after edges_rose grammar_rose disk_rose out_rose WriteFault = Accepts x edges grammar × out_rose
 RunExplains x edges grammar show after edges_rose grammar_rose disk_rose out_rose NoMemory = Unit {0}
 RunExplains x edges grammar show after edges_rose grammar_rose disk_rose out_rose _ = ⊥

@@ -6,7 +6,7 @@ use Rattle.io_edge.specs.declared.kinds.InputFile.TheVariants.{Grammar, Edges}
 use Rattle.grammar_norm.specs.GrammarText.{grammar_fault}
 use Rattle.disk_model.specs.Disk.{Contents}
 use Rattle.disk_model.specs.Crash.{LeavesJust}
-use Rattle.manifest.specs.declared.types.Manifest.{Manifest}
+use Rattle.manifest_codec.specs.declared.types.Manifest.{Manifest}
 use Rattle.open_store.specs.Answers.{DiffersFirst, copy_of}
 use Rattle.open_store.specs.Store.{IsHeldAlone, OpenStore}
 use Rattle.open_store.specs.declared.fault.StoreFault.{StoreFault}
@@ -47,8 +47,11 @@ DiffersFrom told tells copy place = WhereTold told (λ file. IsTrue tells → Di
 abbrev pub CompareExplains : Option (List ℕ) → Option (List ℕ) → Bool → Contents → Manifest → Type 0 → Type 0 → Type 0 → StoreFault → Type 0
 CompareExplains grammar edges tells seen m grammar_rose edges_rose disk_rose stores.ReadFault = grammar_rose ⊎ edges_rose
 CompareExplains grammar edges tells seen m grammar_rose edges_rose disk_rose stores.DiskFault = disk_rose
-CompareExplains grammar edges tells seen m grammar_rose edges_rose disk_rose (stores.OtherInput Grammar place) = DiffersFrom grammar tells (copy_of m Grammar seen) place
-CompareExplains grammar edges tells seen m grammar_rose edges_rose disk_rose (stores.OtherInput Edges place) = IsCopied grammar tells (copy_of m Grammar seen) × DiffersFrom edges tells (copy_of m Edges seen) place
+CompareExplains grammar edges tells seen m grammar_rose edges_rose disk_rose
+    (stores.OtherInput Grammar place) = DiffersFrom grammar tells (copy_of m Grammar seen) place
+CompareExplains grammar edges tells seen m grammar_rose edges_rose disk_rose
+    (stores.OtherInput Edges place) = IsCopied grammar tells (copy_of m Grammar seen)
+    × DiffersFrom edges tells (copy_of m Edges seen) place
 CompareExplains grammar edges tells seen m grammar_rose edges_rose disk_rose (stores.OtherInput _ place) = ⊥
 CompareExplains grammar edges tells seen m grammar_rose edges_rose disk_rose stores.NoMemory = Unit {0}
 CompareExplains grammar edges tells seen m grammar_rose edges_rose disk_rose (stores.InputFault file line kind) = ⊥
@@ -89,4 +92,6 @@ FindExplains tells c Undone disk_rose _ = ⊥
 abbrev pub IsShowBegun : OpenStore → Bool → Contents → Option LabelId → List ℕ → Type 0
 IsShowBegun s tells c shown text =
     ((read : List (List Born)) × AreRead s tells c 0 read × (text ≡ head_text s.manifest ++ tally_text s.manifest.labels (all_edges read)))
-    ⊎ ((parts : List (List Born)) × AreListedIn s c parts × (text ≡ head_text s.manifest ++ (tally_text s.manifest.labels (all_edges parts) ++ (shown_text shown (all_edges parts) ++ done_line))))
+    ⊎ ((parts : List (List Born)) × AreListedIn s c parts
+        × (text ≡ head_text s.manifest ++ (tally_text s.manifest.labels (all_edges parts)
+        ++ (shown_text shown (all_edges parts) ++ done_line))))

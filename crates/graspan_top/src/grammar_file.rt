@@ -1,6 +1,7 @@
 //! The grammar file is read and checked.
 ghost use Rattle.std.specs.Prelude.{◌≡◌, ◌≤◌, ℕ, List, IfOk, IfErr};
 ghost use Rattle.io_edge.specs.Devices.{Rose};
+ghost use Rattle.io_edge.specs.View.{NoCountFalls};
 ghost use Rattle.graspan_top.specs.Stages.{IsGrammarFile, RefusesGrammar};
 
 use crate::status::Status;
@@ -18,9 +19,10 @@ pub(crate) fn read_grammar_file<I: Inputs>(
     name: &str,
 ) -> Result<Vec<u8>, Status>
     ensures read { IfOk result (λ text. IsGrammarFile (I.told inputs.old name.now) text.items) }
-    ensures refused { IfErr result (RefusesGrammar (I.told inputs.old name.now) (Rose (I.faults inputs.old name.now) (I.faults inputs.new name.now))) }
+    ensures refused { IfErr result (RefusesGrammar (I.told inputs.old name.now)
+        (Rose (I.faults inputs.old name.now) (I.faults inputs.new name.now))) }
     ensures kept { I.told inputs.new ≡ I.told inputs.old }
-    ensures others { (other : List ℕ) → I.faults inputs.old other ≤ I.faults inputs.new other }
+    ensures others { NoCountFalls I.Inputs inputs.old inputs.new }
 {
     let bytes = match read_whole(alloc, inputs, name, GRAMMAR_LIMIT) {
         Ok(bytes) => bytes,

@@ -1,14 +1,14 @@
 //! A label's number is looked up.
 ghost use Rattle.std.specs.Prelude.{◌≡◌, List, ℕ, Some, Contains, IfOk, IfErr, option_map, slice_get};
 ghost use Rattle.graph_words.specs.declared.types.Born.{Born as ABorn};
-ghost use Rattle.manifest.specs.Spelling.{Fits};
+ghost use Rattle.manifest_codec.specs.Spelling.{Fits};
 ghost use Rattle.graspan_top.specs.Run.{IsShownText};
 ghost use Rattle.graspan_top.specs.Stages.{shown_text};
 ghost use Rattle.graspan_top.specs.declared.status.Status.TheVariants.{NotKnown};
 
 use crate::status::Status;
 use graph_words::LabelId;
-use manifest::Manifest;
+use manifest_codec::Manifest;
 
 /// The number of a label.
 pub(crate) fn number_of(manifest: &Manifest, label: &str) -> Result<LabelId, Status>
@@ -27,9 +27,13 @@ pub(crate) fn shown_number(
     show: Option<&str>,
 ) -> Result<Option<LabelId>, Status>
     requires { Fits manifest.now }
-    ensures shown { IfOk result (λ l. (edges : List ABorn) → IsShownText manifest.now.labels edges (option_map (λ label. label.now) show.entry) (shown_text l edges)) }
-    ensures only { IfOk result (λ l. (edges : List ABorn) (text : List ℕ) → IsShownText manifest.now.labels edges (option_map (λ label. label.now) show.entry) text → text ≡ shown_text l edges) }
-    ensures none { IfErr result (λ s. (s ≡ NotKnown) × (label : List ℕ) × (option_map (λ l. l.now) show.entry ≡ Some label) × (Contains manifest.now.labels label → ⊥)) }
+    ensures shown { IfOk result (λ l. (edges : List ABorn)
+        → IsShownText manifest.now.labels edges (option_map (λ label. label.now) show.entry) (shown_text l edges)) }
+    ensures only { IfOk result (λ l. (edges : List ABorn) (text : List ℕ)
+        → IsShownText manifest.now.labels edges (option_map (λ label. label.now) show.entry) text
+        → text ≡ shown_text l edges) }
+    ensures none { IfErr result (λ s. (s ≡ NotKnown) × (label : List ℕ)
+        × (option_map (λ l. l.now) show.entry ≡ Some label) × (Contains manifest.now.labels label → ⊥)) }
 {
     match show {
         None => Ok(None),

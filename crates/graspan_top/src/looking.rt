@@ -2,9 +2,9 @@
 ghost use Rattle.std.specs.Prelude.{◌≡◌, ◌≤◌, ◌<◌, ◌++◌, [], ℕ, List, Option, Some, IsTrue, IfErr, IfOk, OnOk, length};
 ghost use Rattle.io_edge.specs.Devices.{AppendsPrefix, Rose};
 ghost use Rattle.disk_model.specs.Disk.{Rose as DiskRose};
+ghost use Rattle.disk_model.specs.View.{OnlyLooks};
 ghost use Rattle.graph_words.specs.declared.types.Born.{Born as ABorn};
-ghost use Rattle.manifest.specs.Spelling.{Fits};
-ghost use Rattle.manifest_switch.specs.Looks.{OnlyLooks};
+ghost use Rattle.manifest_codec.specs.Spelling.{Fits};
 ghost use Rattle.store_law.specs.Left.{IsDone};
 ghost use Rattle.open_store.specs.Store.{IsHeld};
 ghost use Rattle.query_text.specs.Text.{answers_in, answers_text};
@@ -21,7 +21,7 @@ use disk_model::Disk;
 use graph_words::LabelId;
 use io_edge::Sink;
 use itoa::Buffer;
-use manifest::Manifest;
+use manifest_codec::Manifest;
 use pair_sched::least_dirty;
 use query_text::{AnswerFault, answers};
 use std::alloc::Global;
@@ -30,7 +30,7 @@ use store::{OpenMode, Opened, Store, open};
 /// The store that the disk holds.
 fn found<D: Disk>(alloc: Global, disk: &mut D) -> Result<Store, Status>
     ensures held { IsTrue D.tells → IfOk result (λ s. IsHeld s (D.seen disk.old)) }
-    ensures looks { OnlyLooks D.seen D.may_leave D.moment D.left_since disk.old disk.new }
+    ensures looks { OnlyLooks D.Disk disk.old disk.new }
     ensures later { D.faults disk.old ≤ D.faults disk.new }
     ensures cause { IfErr result (FindExplains D.tells (D.seen disk.old) none_undone (DiskRose (D.faults disk.old) (D.faults disk.new))) }
 {
@@ -56,7 +56,7 @@ fn finished(manifest: &Manifest) -> Result<(), Status>
 fn finished_store<D: Disk>(alloc: Global, disk: &mut D) -> Result<Store, Status>
     ensures held { IsTrue D.tells → IfOk result (λ s. IsHeld s (D.seen disk.old)) }
     ensures done { IfOk result (λ s. IsDone s.manifest) }
-    ensures looks { OnlyLooks D.seen D.may_leave D.moment D.left_since disk.old disk.new }
+    ensures looks { OnlyLooks D.Disk disk.old disk.new }
     ensures later { D.faults disk.old ≤ D.faults disk.new }
     ensures cause { IfErr result (FindExplains D.tells (D.seen disk.old) IsUnfinished (DiskRose (D.faults disk.old) (D.faults disk.new))) }
 {
@@ -71,10 +71,13 @@ pub(crate) fn parts<D: Disk, O: Sink>(
     disk: &mut D,
     out: &mut O,
 ) -> Result<(), Status>
-    ensures explained { (told : List ℕ → Option (List ℕ)) → PartsExplains (record { told = told; tells = D.tells; before = D.seen disk.old }) (DiskRose (D.faults disk.old) (D.faults disk.new)) (Rose (O.faults out.old) (O.faults out.new)) (status_of result) }
+    ensures explained { (told : List ℕ → Option (List ℕ))
+        → PartsExplains (record { told = told; tells = D.tells; before = D.seen disk.old })
+        (DiskRose (D.faults disk.old) (D.faults disk.new)) (Rose (O.faults out.old) (O.faults out.new))
+        (status_of result) }
     ensures printed { PrintsFirst D.tells (IsPartsText (D.seen disk.old)) (O.told out.old) (O.told out.new) (status_of result) }
     ensures begun { Begins D.tells (IsNothingOr (IsPartsText (D.seen disk.old))) (O.told out.old) (O.told out.new) (status_of result) }
-    ensures looks { OnlyLooks D.seen D.may_leave D.moment D.left_since disk.old disk.new }
+    ensures looks { OnlyLooks D.Disk disk.old disk.new }
     ensures later { D.faults disk.old ≤ D.faults disk.new }
     ensures writes { O.faults out.old ≤ O.faults out.new }
 {
@@ -84,10 +87,13 @@ pub(crate) fn parts<D: Disk, O: Sink>(
 
 /// Prints the edges of a store without work left.
 pub(crate) fn dump<D: Disk, O: Sink>(alloc: Global, disk: &mut D, out: &mut O) -> Result<(), Status>
-    ensures explained { (told : List ℕ → Option (List ℕ)) → DumpExplains (record { told = told; tells = D.tells; before = D.seen disk.old }) (DiskRose (D.faults disk.old) (D.faults disk.new)) (Rose (O.faults out.old) (O.faults out.new)) (status_of result) }
+    ensures explained { (told : List ℕ → Option (List ℕ))
+        → DumpExplains (record { told = told; tells = D.tells; before = D.seen disk.old })
+        (DiskRose (D.faults disk.old) (D.faults disk.new)) (Rose (O.faults out.old) (O.faults out.new))
+        (status_of result) }
     ensures printed { PrintsFirst D.tells (IsDumpText (D.seen disk.old)) (O.told out.old) (O.told out.new) (status_of result) }
     ensures begun { Begins D.tells (IsNothingOr (IsDumpFront (D.seen disk.old))) (O.told out.old) (O.told out.new) (status_of result) }
-    ensures looks { OnlyLooks D.seen D.may_leave D.moment D.left_since disk.old disk.new }
+    ensures looks { OnlyLooks D.Disk disk.old disk.new }
     ensures later { D.faults disk.old ≤ D.faults disk.new }
     ensures writes { O.faults out.old ≤ O.faults out.new }
 {
@@ -138,11 +144,14 @@ fn print_query<D: Disk, O: Sink>(
 ) -> Result<(), AnswerFault>
     requires { ends.from < store.now.manifest.vertices }
     ensures printed { (read : List (List ABorn)) × IsPrinted store.now D.tells (D.seen disk.old) (first_asked store.now (Some ends.from)) 1
-        (λ edges. answers_text label (Some ends.from) ends.to edges ++ the_count_line (length (answers_in label (Some ends.from) ends.to edges))) (O.told out.old) (O.told out.new) result read × (length read ≡ 0 → AppendsPrefix (O.told out.old) (O.told out.new) []) }
-    ensures looks { OnlyLooks D.seen D.may_leave D.moment D.left_since disk.old disk.new }
+        (λ edges. answers_text label (Some ends.from) ends.to edges
+            ++ the_count_line (length (answers_in label (Some ends.from) ends.to edges))) (O.told out.old)
+            (O.told out.new) result read × (length read ≡ 0 → AppendsPrefix (O.told out.old) (O.told out.new) []) }
+    ensures looks { OnlyLooks D.Disk disk.old disk.new }
     ensures later { D.faults disk.old ≤ D.faults disk.new }
     ensures writes { O.faults out.old ≤ O.faults out.new }
-    ensures cause { HasAnswerCause (O.faults out.old) (O.faults out.new) (D.faults disk.old) (D.faults disk.new) (IsBlamed store.now D.tells (D.seen disk.old) (first_asked store.now (Some ends.from)) 1) result }
+    ensures cause { HasAnswerCause (O.faults out.old) (O.faults out.new) (D.faults disk.old) (D.faults disk.new)
+        (IsBlamed store.now D.tells (D.seen disk.old) (first_asked store.now (Some ends.from)) 1) result }
 {
     let count = answers(alloc, disk, store, label, Some(ends.from), ends.to, out)?;
     out.write(count_line(count).as_slice())?;
@@ -157,10 +166,15 @@ pub(crate) fn query<D: Disk, O: Sink>(
     ends: Ends,
     out: &mut O,
 ) -> Result<(), Status>
-    ensures explained { (told : List ℕ → Option (List ℕ)) → QueryExplains (record { told = told; tells = D.tells; before = D.seen disk.old }) label.now ends.from ends.to (DiskRose (D.faults disk.old) (D.faults disk.new)) (Rose (O.faults out.old) (O.faults out.new)) (status_of result) }
-    ensures printed { PrintsFirst D.tells (IsQueryText (D.seen disk.old) label.now ends.from ends.to) (O.told out.old) (O.told out.new) (status_of result) }
-    ensures begun { Begins D.tells (IsNothingOr (IsQueryText (D.seen disk.old) label.now ends.from ends.to)) (O.told out.old) (O.told out.new) (status_of result) }
-    ensures looks { OnlyLooks D.seen D.may_leave D.moment D.left_since disk.old disk.new }
+    ensures explained { (told : List ℕ → Option (List ℕ))
+        → QueryExplains (record { told = told; tells = D.tells; before = D.seen disk.old }) label.now ends.from
+        ends.to (DiskRose (D.faults disk.old) (D.faults disk.new)) (Rose (O.faults out.old) (O.faults out.new))
+        (status_of result) }
+    ensures printed { PrintsFirst D.tells (IsQueryText (D.seen disk.old) label.now ends.from ends.to)
+        (O.told out.old) (O.told out.new) (status_of result) }
+    ensures begun { Begins D.tells (IsNothingOr (IsQueryText (D.seen disk.old) label.now ends.from ends.to))
+        (O.told out.old) (O.told out.new) (status_of result) }
+    ensures looks { OnlyLooks D.Disk disk.old disk.new }
     ensures later { D.faults disk.old ≤ D.faults disk.new }
     ensures writes { O.faults out.old ≤ O.faults out.new }
 {

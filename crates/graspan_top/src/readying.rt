@@ -1,9 +1,10 @@
 //! A store of two files is made, or found and compared with them.
 ghost use Rattle.std.specs.Prelude.{◌≡◌, ◌≢◌, ◌≤◌, ℕ, List, Option, IfOk, IfErr, OnOk, IsTrue};
 ghost use Rattle.disk_model.specs.Disk.{Contents, Rose as DiskRose};
+ghost use Rattle.disk_model.specs.View.{OnlyLooks};
 ghost use Rattle.io_edge.specs.Devices.{Rose};
 ghost use Rattle.io_edge.specs.declared.kinds.InputFile.TheVariants.{Edges, Grammar};
-ghost use Rattle.manifest_switch.specs.Looks.{OnlyLooks};
+ghost use Rattle.io_edge.specs.View.{NoCountFalls};
 ghost use Rattle.open_store.specs.Answers.{copy_of};
 ghost use Rattle.graspan_top.specs.declared.status.Status.TheVariants.{Done};
 ghost use Rattle.graspan_top.specs.Faults.{of_store};
@@ -33,13 +34,17 @@ fn compare<I: Inputs, D: Disk>(
     disk: &mut D,
     store: &Store,
 ) -> Result<(), StoreFault>
-    ensures same_grammar { OnOk result (IsCopied (I.told inputs.old files.now.grammar.now) D.tells (copy_of store.now.manifest Grammar (D.seen disk.old))) }
+    ensures same_grammar { OnOk result (IsCopied (I.told inputs.old files.now.grammar.now) D.tells
+        (copy_of store.now.manifest Grammar (D.seen disk.old))) }
     ensures same_edges { OnOk result (IsCopied (I.told inputs.old files.now.edges.now) D.tells (copy_of store.now.manifest Edges (D.seen disk.old))) }
-    ensures cause { IfErr result (CompareExplains (I.told inputs.old files.now.grammar.now) (I.told inputs.old files.now.edges.now) D.tells (D.seen disk.old) store.now.manifest
-        (Rose (I.faults inputs.old files.now.grammar.now) (I.faults inputs.new files.now.grammar.now)) (Rose (I.faults inputs.old files.now.edges.now) (I.faults inputs.new files.now.edges.now)) (DiskRose (D.faults disk.old) (D.faults disk.new))) }
-    ensures looks { OnlyLooks D.seen D.may_leave D.moment D.left_since disk.old disk.new }
+    ensures cause { IfErr result (CompareExplains (I.told inputs.old files.now.grammar.now)
+        (I.told inputs.old files.now.edges.now) D.tells (D.seen disk.old) store.now.manifest
+        (Rose (I.faults inputs.old files.now.grammar.now) (I.faults inputs.new files.now.grammar.now))
+            (Rose (I.faults inputs.old files.now.edges.now) (I.faults inputs.new files.now.edges.now))
+            (DiskRose (D.faults disk.old) (D.faults disk.new))) }
+    ensures looks { OnlyLooks D.Disk disk.old disk.new }
     ensures kept { I.told inputs.new ≡ I.told inputs.old }
-    ensures others { (other : List ℕ) → I.faults inputs.old other ≤ I.faults inputs.new other }
+    ensures others { NoCountFalls I.Inputs inputs.old inputs.new }
     ensures later { D.faults disk.old ≤ D.faults disk.new }
 {
     same_input(
@@ -63,13 +68,21 @@ fn found_or_made<I: Inputs, D: Disk>(
     disk: &mut D,
 ) -> Result<Store, StoreFault>
     requires { IsGrammarFile (I.told inputs.old files.now.grammar.now) grammar.now }
-    ensures ready { IfOk result (IsReady (record { told = I.told inputs.old; tells = D.tells; before = D.seen disk.old }) files.now.edges.now files.now.grammar.now (D.seen disk.new) (D.may_leave disk.new)) }
-    ensures begins { IfOk result (λ _. IsTrue D.tells → BeginsWith (record { told = I.told inputs.old; tells = D.tells; before = D.seen disk.old }) (D.seen disk.new)) }
-    ensures cause { IfErr result (λ fault. (show : Option (List ℕ)) (after : Contents) → RunExplains (record { told = I.told inputs.old; tells = D.tells; before = D.seen disk.old }) files.now.edges.now files.now.grammar.now show after
-        (Rose (I.faults inputs.old files.now.edges.now) (I.faults inputs.new files.now.edges.now)) (Rose (I.faults inputs.old files.now.grammar.now) (I.faults inputs.new files.now.grammar.now)) (DiskRose (D.faults disk.old) (D.faults disk.new)) ⊥ (of_store fault)) }
+    ensures ready { IfOk result (IsReady (record
+        { told = I.told inputs.old; tells = D.tells; before = D.seen disk.old }) files.now.edges.now
+        files.now.grammar.now (D.seen disk.new) (D.may_leave disk.new)) }
+    ensures begins { IfOk result (λ _. IsTrue D.tells
+        → BeginsWith (record { told = I.told inputs.old; tells = D.tells; before = D.seen disk.old })
+        (D.seen disk.new)) }
+    ensures cause { IfErr result (λ fault. (show : Option (List ℕ)) (after : Contents)
+        → RunExplains (record { told = I.told inputs.old; tells = D.tells; before = D.seen disk.old })
+        files.now.edges.now files.now.grammar.now show after
+        (Rose (I.faults inputs.old files.now.edges.now) (I.faults inputs.new files.now.edges.now))
+            (Rose (I.faults inputs.old files.now.grammar.now) (I.faults inputs.new files.now.grammar.now))
+            (DiskRose (D.faults disk.old) (D.faults disk.new)) ⊥ (of_store fault)) }
     ensures stops { StopsLeave D.may_leave D.moment D.left_since (I.told inputs.old) files.now.edges.now files.now.grammar.now disk.old disk.new }
     ensures kept { I.told inputs.new ≡ I.told inputs.old }
-    ensures others { (other : List ℕ) → I.faults inputs.old other ≤ I.faults inputs.new other }
+    ensures others { NoCountFalls I.Inputs inputs.old inputs.new }
     ensures later { D.faults disk.old ≤ D.faults disk.new }
 {
     match open(alloc, disk, OpenMode::Change)? {
@@ -89,14 +102,22 @@ pub(crate) fn ready_store<I: Inputs, D: Disk>(
     inputs: &mut I,
     disk: &mut D,
 ) -> Result<Store, Status>
-    ensures ready { IfOk result (IsReady (record { told = I.told inputs.old; tells = D.tells; before = D.seen disk.old }) files.now.edges.now files.now.grammar.now (D.seen disk.new) (D.may_leave disk.new)) }
-    ensures begins { IfOk result (λ _. IsTrue D.tells → BeginsWith (record { told = I.told inputs.old; tells = D.tells; before = D.seen disk.old }) (D.seen disk.new)) }
-    ensures cause { IfErr result (λ fault. (show : Option (List ℕ)) (after : Contents) → RunExplains (record { told = I.told inputs.old; tells = D.tells; before = D.seen disk.old }) files.now.edges.now files.now.grammar.now show after
-        (Rose (I.faults inputs.old files.now.edges.now) (I.faults inputs.new files.now.edges.now)) (Rose (I.faults inputs.old files.now.grammar.now) (I.faults inputs.new files.now.grammar.now)) (DiskRose (D.faults disk.old) (D.faults disk.new)) ⊥ fault) }
+    ensures ready { IfOk result (IsReady (record
+        { told = I.told inputs.old; tells = D.tells; before = D.seen disk.old }) files.now.edges.now
+        files.now.grammar.now (D.seen disk.new) (D.may_leave disk.new)) }
+    ensures begins { IfOk result (λ _. IsTrue D.tells
+        → BeginsWith (record { told = I.told inputs.old; tells = D.tells; before = D.seen disk.old })
+        (D.seen disk.new)) }
+    ensures cause { IfErr result (λ fault. (show : Option (List ℕ)) (after : Contents)
+        → RunExplains (record { told = I.told inputs.old; tells = D.tells; before = D.seen disk.old })
+        files.now.edges.now files.now.grammar.now show after
+        (Rose (I.faults inputs.old files.now.edges.now) (I.faults inputs.new files.now.edges.now))
+            (Rose (I.faults inputs.old files.now.grammar.now) (I.faults inputs.new files.now.grammar.now))
+            (DiskRose (D.faults disk.old) (D.faults disk.new)) ⊥ fault) }
     ensures fails { IfErr result (λ fault. fault ≢ Done) }
     ensures stops { StopsLeave D.may_leave D.moment D.left_since (I.told inputs.old) files.now.edges.now files.now.grammar.now disk.old disk.new }
     ensures kept { I.told inputs.new ≡ I.told inputs.old }
-    ensures others { (other : List ℕ) → I.faults inputs.old other ≤ I.faults inputs.new other }
+    ensures others { NoCountFalls I.Inputs inputs.old inputs.new }
     ensures later { D.faults disk.old ≤ D.faults disk.new }
 {
     let grammar = read_grammar_file(alloc, inputs, files.grammar)?;

@@ -2,9 +2,10 @@
 ghost use Rattle.std.specs.Prelude.{◌≡◌, ◌≢◌, ◌≤◌, ◌++◌, ℕ, List, Option, Some, IsTrue, IfErr, IfOk, OnOk, OnErr, length, option_map};
 ghost use Rattle.graph_words.specs.declared.types.Born.{Born as ABorn};
 ghost use Rattle.io_edge.specs.Devices.{AppendsPrefix, Rose, Takes};
+ghost use Rattle.io_edge.specs.View.{NoCountFalls};
 ghost use Rattle.closing_machine.specs.Parts.{all_edges};
 ghost use Rattle.disk_model.specs.Disk.{Contents, Rose as DiskRose};
-ghost use Rattle.manifest_switch.specs.Looks.{OnlyLooks};
+ghost use Rattle.disk_model.specs.View.{OnlyLooks};
 ghost use Rattle.store_law.specs.Left.{IsDone, IsLeft};
 ghost use Rattle.store_law.specs.Listed.{AreExact};
 ghost use Rattle.open_store.specs.Store.{IsHeld};
@@ -36,11 +37,13 @@ fn print_shown<D: Disk, O: Sink>(
     shown: Option<LabelId>,
     out: &mut O,
 ) -> Result<(), AnswerFault>
-    ensures printed { IsTrue D.tells → (parts : List (List ABorn)) → AreListedIn store.now (D.seen disk.old) parts → Takes (O.told out.old) (O.told out.new) result (shown_text shown (all_edges parts)) }
-    ensures looks { OnlyLooks D.seen D.may_leave D.moment D.left_since disk.old disk.new }
+    ensures printed { IsTrue D.tells → (parts : List (List ABorn)) → AreListedIn store.now (D.seen disk.old) parts
+        → Takes (O.told out.old) (O.told out.new) result (shown_text shown (all_edges parts)) }
+    ensures looks { OnlyLooks D.Disk disk.old disk.new }
     ensures later { D.faults disk.old ≤ D.faults disk.new }
     ensures writes { O.faults out.old ≤ O.faults out.new }
-    ensures cause { HasAnswerCause (O.faults out.old) (O.faults out.new) (D.faults disk.old) (D.faults disk.new) (IsBlamed store.now D.tells (D.seen disk.old) 0 (length store.now.manifest.parts)) result }
+    ensures cause { HasAnswerCause (O.faults out.old) (O.faults out.new) (D.faults disk.old) (D.faults disk.new)
+        (IsBlamed store.now D.tells (D.seen disk.old) 0 (length store.now.manifest.parts)) result }
 {
     match shown {
         None => Ok(()),
@@ -60,13 +63,18 @@ fn print_run<D: Disk, O: Sink>(
     out: &mut O,
 ) -> Result<(), AnswerFault>
     ensures printed { IsTrue D.tells → (parts : List (List ABorn)) → AreListedIn store.now (D.seen disk.old) parts
-        → Takes (O.told out.old) (O.told out.new) result (head_text store.now.manifest ++ (tally_text store.now.manifest.labels (all_edges parts) ++ (shown_text shown (all_edges parts) ++ done_line))) }
-    ensures begun { IsTrue D.tells → OnErr result ((text : List ℕ) × IsShowBegun store.now D.tells (D.seen disk.old) shown text × AppendsPrefix (O.told out.old) (O.told out.new) text) }
+        → Takes (O.told out.old) (O.told out.new) result
+            (head_text store.now.manifest ++ (tally_text store.now.manifest.labels (all_edges parts)
+            ++ (shown_text shown (all_edges parts) ++ done_line))) }
+    ensures begun { IsTrue D.tells → OnErr result
+        ((text : List ℕ) × IsShowBegun store.now D.tells (D.seen disk.old) shown text
+        × AppendsPrefix (O.told out.old) (O.told out.new) text) }
     ensures listed { IsTrue D.tells → OnOk result ((parts : List (List ABorn)) × AreListedIn store.now (D.seen disk.old) parts) }
-    ensures looks { OnlyLooks D.seen D.may_leave D.moment D.left_since disk.old disk.new }
+    ensures looks { OnlyLooks D.Disk disk.old disk.new }
     ensures later { D.faults disk.old ≤ D.faults disk.new }
     ensures writes { O.faults out.old ≤ O.faults out.new }
-    ensures cause { HasAnswerCause (O.faults out.old) (O.faults out.new) (D.faults disk.old) (D.faults disk.new) (IsBlamed store.now D.tells (D.seen disk.old) 0 (length store.now.manifest.parts)) result }
+    ensures cause { HasAnswerCause (O.faults out.old) (O.faults out.new) (D.faults disk.old) (D.faults disk.new)
+        (IsBlamed store.now D.tells (D.seen disk.old) 0 (length store.now.manifest.parts)) result }
 {
     head(store, out)?;
     tally(alloc, disk, store, out)?;
@@ -85,10 +93,14 @@ fn show_run<D: Disk, O: Sink>(
 ) -> Result<(), Status>
     requires held { IsTrue D.tells → IsHeld store.now (D.seen disk.old) }
     requires done { IsDone store.now.manifest }
-    ensures explained { ShowExplains store.now D.tells (D.seen disk.old) (option_map (λ l. l.now) show.entry) (DiskRose (D.faults disk.old) (D.faults disk.new)) (Rose (O.faults out.old) (O.faults out.new)) (status_of result) }
-    ensures printed { PrintsFirst D.tells (IsRunText (D.seen disk.old) (option_map (λ l. l.now) show.entry)) (O.told out.old) (O.told out.new) (status_of result) }
-    ensures begun { Begins D.tells (IsNothingOr (IsRunBegun (D.seen disk.old) (option_map (λ l. l.now) show.entry))) (O.told out.old) (O.told out.new) (status_of result) }
-    ensures looks { OnlyLooks D.seen D.may_leave D.moment D.left_since disk.old disk.new }
+    ensures explained { ShowExplains store.now D.tells (D.seen disk.old) (option_map (λ l. l.now) show.entry)
+        (DiskRose (D.faults disk.old) (D.faults disk.new)) (Rose (O.faults out.old) (O.faults out.new))
+        (status_of result) }
+    ensures printed { PrintsFirst D.tells (IsRunText (D.seen disk.old) (option_map (λ l. l.now) show.entry))
+        (O.told out.old) (O.told out.new) (status_of result) }
+    ensures begun { Begins D.tells (IsNothingOr (IsRunBegun (D.seen disk.old) (option_map (λ l. l.now) show.entry)))
+        (O.told out.old) (O.told out.new) (status_of result) }
+    ensures looks { OnlyLooks D.Disk disk.old disk.new }
     ensures later { D.faults disk.old ≤ D.faults disk.new }
     ensures writes { O.faults out.old ≤ O.faults out.new }
 {
@@ -104,14 +116,20 @@ fn closed_store<I: Inputs, D: Disk>(
     inputs: &mut I,
     disk: &mut D,
 ) -> Result<Store, Status>
-    ensures ready { IfOk result (IsReady (record { told = I.told inputs.old; tells = D.tells; before = D.seen disk.old }) files.now.edges.now files.now.grammar.now (D.seen disk.new) (D.may_leave disk.new)) }
+    ensures ready { IfOk result (IsReady (record
+        { told = I.told inputs.old; tells = D.tells; before = D.seen disk.old }) files.now.edges.now
+        files.now.grammar.now (D.seen disk.new) (D.may_leave disk.new)) }
     ensures done { IfOk result (λ s. IsDone s.manifest) }
-    ensures cause { IfErr result (λ fault. (show : Option (List ℕ)) (after : Contents) → RunExplains (record { told = I.told inputs.old; tells = D.tells; before = D.seen disk.old }) files.now.edges.now files.now.grammar.now show after
-        (Rose (I.faults inputs.old files.now.edges.now) (I.faults inputs.new files.now.edges.now)) (Rose (I.faults inputs.old files.now.grammar.now) (I.faults inputs.new files.now.grammar.now)) (DiskRose (D.faults disk.old) (D.faults disk.new)) ⊥ fault) }
+    ensures cause { IfErr result (λ fault. (show : Option (List ℕ)) (after : Contents)
+        → RunExplains (record { told = I.told inputs.old; tells = D.tells; before = D.seen disk.old })
+        files.now.edges.now files.now.grammar.now show after
+        (Rose (I.faults inputs.old files.now.edges.now) (I.faults inputs.new files.now.edges.now))
+            (Rose (I.faults inputs.old files.now.grammar.now) (I.faults inputs.new files.now.grammar.now))
+            (DiskRose (D.faults disk.old) (D.faults disk.new)) ⊥ fault) }
     ensures fails { IfErr result (λ fault. fault ≢ Done) }
     ensures stops { StopsLeave D.may_leave D.moment D.left_since (I.told inputs.old) files.now.edges.now files.now.grammar.now disk.old disk.new }
     ensures kept { I.told inputs.new ≡ I.told inputs.old }
-    ensures others { (other : List ℕ) → I.faults inputs.old other ≤ I.faults inputs.new other }
+    ensures others { NoCountFalls I.Inputs inputs.old inputs.new }
     ensures later { D.faults disk.old ≤ D.faults disk.new }
 {
     let store = ready_store(alloc, files, options.part_edges, inputs, disk)?;
@@ -128,15 +146,23 @@ pub(crate) fn run<I: Inputs, D: Disk, O: Sink>(
     disk: &mut D,
     out: &mut O,
 ) -> Result<(), Status>
-    ensures explained { RunExplains (record { told = I.told inputs.old; tells = D.tells; before = D.seen disk.old }) files.now.edges.now files.now.grammar.now (option_map (λ l. l.now) show.entry) (D.seen disk.new)
-        (Rose (I.faults inputs.old files.now.edges.now) (I.faults inputs.new files.now.edges.now)) (Rose (I.faults inputs.old files.now.grammar.now) (I.faults inputs.new files.now.grammar.now)) (DiskRose (D.faults disk.old) (D.faults disk.new)) (Rose (O.faults out.old) (O.faults out.new)) (status_of result) }
-    ensures printed { PrintsFirst D.tells (IsRunText (D.seen disk.new) (option_map (λ l. l.now) show.entry)) (O.told out.old) (O.told out.new) (status_of result) }
-    ensures begun { Begins D.tells (IsNothingOr (IsRunBegun (D.seen disk.new) (option_map (λ l. l.now) show.entry))) (O.told out.old) (O.told out.new) (status_of result) }
-    ensures exact { IsTrue D.tells → (g e : List ℕ) → I.told inputs.old files.now.grammar.now ≡ Some g → I.told inputs.old files.now.edges.now ≡ Some e → IsLeft (texts_of g e) (D.seen disk.old) → status_of result ≡ Done
+    ensures explained { RunExplains (record { told = I.told inputs.old; tells = D.tells; before = D.seen disk.old })
+        files.now.edges.now files.now.grammar.now (option_map (λ l. l.now) show.entry) (D.seen disk.new)
+        (Rose (I.faults inputs.old files.now.edges.now) (I.faults inputs.new files.now.edges.now))
+            (Rose (I.faults inputs.old files.now.grammar.now) (I.faults inputs.new files.now.grammar.now))
+            (DiskRose (D.faults disk.old) (D.faults disk.new)) (Rose (O.faults out.old) (O.faults out.new))
+            (status_of result) }
+    ensures printed { PrintsFirst D.tells (IsRunText (D.seen disk.new) (option_map (λ l. l.now) show.entry))
+        (O.told out.old) (O.told out.new) (status_of result) }
+    ensures begun { Begins D.tells (IsNothingOr (IsRunBegun (D.seen disk.new) (option_map (λ l. l.now) show.entry)))
+        (O.told out.old) (O.told out.new) (status_of result) }
+    ensures exact { IsTrue D.tells → (g e : List ℕ) → I.told inputs.old files.now.grammar.now ≡ Some g
+        → I.told inputs.old files.now.edges.now ≡ Some e → IsLeft (texts_of g e) (D.seen disk.old)
+        → status_of result ≡ Done
         → AreExact (texts_of g e) (D.seen disk.new) × ((c : Contents) → D.may_leave disk.new c → AreExact (texts_of g e) c) }
     ensures stops { StopsLeave D.may_leave D.moment D.left_since (I.told inputs.old) files.now.edges.now files.now.grammar.now disk.old disk.new }
     ensures kept { I.told inputs.new ≡ I.told inputs.old }
-    ensures others { (other : List ℕ) → I.faults inputs.old other ≤ I.faults inputs.new other }
+    ensures others { NoCountFalls I.Inputs inputs.old inputs.new }
     ensures later { D.faults disk.old ≤ D.faults disk.new }
     ensures writes { O.faults out.old ≤ O.faults out.new }
 {

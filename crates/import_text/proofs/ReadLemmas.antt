@@ -9,7 +9,7 @@ use Rattle.edge_text.specs.declared.edges.EdgesFault.TheVariants as edges
 use Rattle.edge_text.specs.Feeding.{IsFed}
 use Rattle.edge_text.proofs.FeedLemmas.{IsReadTo, reads_start, reads_on}
 use Rattle.disk_model.specs.Disk.{Contents, Reads}
-use Rattle.manifest_switch.specs.Looks.{OnlyLooks}
+use Rattle.disk_model.specs.Looks.{Looks}
 use Rattle.import_text.specs.declared.fault.TextFault.TheVariants as faults
 use Rattle.import_text.specs.Given.{AddsJust, IsAboveIn}
 use Rattle.import_text.specs.Gathering.{Gathered, Gathers, GathersPiece, GathersEnd}
@@ -19,7 +19,7 @@ use Rattle.import_text.proofs.GivenLemmas.{AddsJust-then, above_none, above_appe
 
 -- ---- looking at a disk
 module _ {D : Type 0} (seen : D → Contents) (may_leave : D → Contents → Type 0) (moment : D → ℕ) (left_since : D → ℕ → Contents → Type 0) where
-  pub looks_none : (old : D) → OnlyLooks seen may_leave moment left_since old old
+  pub looks_none : (old : D) → Looks seen may_leave moment left_since old old
   looks_none old =
       record {
         same_seen = refl;
@@ -29,7 +29,7 @@ module _ {D : Type 0} (seen : D → Contents) (may_leave : D → Contents → Ty
         time = record { later = omega arith; nothing_else = λ t c le h. inl h; keeps = λ t c le h. h };
       }
 
-  pub looks_then : (old mid new : D) → OnlyLooks seen may_leave moment left_since old mid → OnlyLooks seen may_leave moment left_since mid new → OnlyLooks seen may_leave moment left_since old new
+  pub looks_then : (old mid new : D) → Looks seen may_leave moment left_since old mid → Looks seen may_leave moment left_since mid new → Looks seen may_leave moment left_since old new
   looks_then old mid new a b =
       record {
         same_seen = b.same_seen ∙ a.same_seen;

@@ -30,10 +30,12 @@ pub record GathersPiece (n : Normal) (piece : List ℕ) (old new : Gathered) : T
   pub place : new.reader.place ≡ old.reader.place + length piece
   pub short : old.reader.place ≤ LONGEST_TEXT + 4097 → new.reader.place ≤ LONGEST_TEXT + 4097
   pub names : length new.reader.table ≤ 1000
-  pub fed : (names : List (List ℕ)) (text : List ℕ) (front : List Edge) → IsFed 0 names text old.reader front → IsFed 0 names (text ++ piece) new.reader (front ++ found)
+  pub fed : (names : List (List ℕ)) (text : List ℕ) (front : List Edge) → IsFed 0 names text old.reader front
+      → IsFed 0 names (text ++ piece) new.reader (front ++ found)
 
 -- the end was read, and what a last line gives was added
 pub record GathersEnd (n : Normal) (old new : Gathered) : Type 0 where
   pub found : List Edge
   pub gathers : Gathers n found old new
-  pub reads : (names : List (List ℕ)) (text : List ℕ) (front : List Edge) → IsFed 0 names text old.reader front → ReadsEdges 0 names text (front ++ found) new.reader.table
+  pub reads : (names : List (List ℕ)) (text : List ℕ) (front : List Edge) → IsFed 0 names text old.reader front
+      → ReadsEdges 0 names text (front ++ found) new.reader.table

@@ -20,7 +20,8 @@ pub record TakesPiece (piece : List ℕ) (old new : Tallied) : Type 0 where
   pub place : new.reader.place ≡ old.reader.place + length piece
   pub short : old.reader.place ≤ LONGEST_TEXT + 4097 → new.reader.place ≤ LONGEST_TEXT + 4097
   pub small : length old.degrees ≤ 16777216 → length new.degrees ≤ 16777216
-  pub fed : (names : List (List ℕ)) (text : List ℕ) (front : List Edge) → IsFed 0 names text old.reader front → IsFed 0 names (text ++ piece) new.reader (front ++ added)
+  pub fed : (names : List (List ℕ)) (text : List ℕ) (front : List Edge) → IsFed 0 names text old.reader front
+      → IsFed 0 names (text ++ piece) new.reader (front ++ added)
 
 -- the end was read, and the edge of a last line is counted
 pub record TakesEnd (old new : Tallied) : Type 0 where
@@ -28,4 +29,5 @@ pub record TakesEnd (old new : Tallied) : Type 0 where
   pub few : length added ≤ 1
   pub counted : Counted added old.degrees new.degrees
   pub small : length old.degrees ≤ 16777216 → length new.degrees ≤ 16777216
-  pub reads : (names : List (List ℕ)) (text : List ℕ) (front : List Edge) → IsFed 0 names text old.reader front → ReadsEdges 0 names text (front ++ added) new.reader.table
+  pub reads : (names : List (List ℕ)) (text : List ℕ) (front : List Edge) → IsFed 0 names text old.reader front
+      → ReadsEdges 0 names text (front ++ added) new.reader.table

@@ -2,10 +2,11 @@
 ghost use Rattle.std.specs.Prelude.{◌≡◌, ◌≢◌, ◌<◌, ◌≤◌, ◌^◌, ℕ, List, [], Some, true, IsTrue, IfOk, IfErr, OnOk, length};
 ghost use Rattle.std.specs.List.{sum};
 ghost use Rattle.io_edge.specs.declared.kinds.InputKind.{InputKind as AKind};
+ghost use Rattle.io_edge.specs.View.{NoCountFalls};
 ghost use Rattle.graph_words.specs.Text.{distinct};
 ghost use Rattle.edge_text.specs.EdgesText.{edges_fault};
 ghost use Rattle.edge_text.specs.Feeding.{IsFed};
-ghost use Rattle.disk_model.specs.Crash.{LeavesOnly, From};
+ghost use Rattle.disk_model.specs.View.{LeavesBy};
 ghost use Rattle.disk_files.specs.Files.{OnlyFile};
 ghost use Rattle.import_text.specs.Copying.{CopiesFile, CopiesBehind, AreFew, HasCauseIn};
 
@@ -34,7 +35,6 @@ pub struct Copied {
 
 /// Copies a file piece by piece into an empty one, and tells its length.
 fn copy_pieces<I: Inputs, D: Disk>(
-    alloc: Global,
     inputs: &mut I,
     name: &str,
     disk: &mut D,
@@ -48,14 +48,16 @@ fn copy_pieces<I: Inputs, D: Disk>(
     requires some { 0 < length piece.old }
     requires small { length piece.old ≤ 65536 }
     ensures copied { IfOk result (λ len. (names : List (List ℕ)) → IsFed 0 names [] tally.old.reader []
-        → CopiesBehind names (I.told inputs.old name.now) (IsTrue D.tells) file (D.seen disk.old) (D.seen disk.new) len tally.new.degrees tally.new.reader.table) }
+        → CopiesBehind names (I.told inputs.old name.now) (IsTrue D.tells) file (D.seen disk.old)
+            (D.seen disk.new) len tally.new.degrees tally.new.reader.table) }
     ensures few { OnOk result ((length tally.new.degrees ≤ 16777216) × (sum tally.new.degrees < 2 ^ 64)) }
     ensures fault { IfErr result (λ e. (line : ℕ) (kind : AKind) (text : List ℕ) (names : List (List ℕ)) → e ≡ TextFault.Text line kind
-        → I.told inputs.old name.now ≡ Some text → IsFed 0 names [] tally.old.reader [] → edges_fault 0 names text ≡ Some (record { line = line; kind = kind })) }
+        → I.told inputs.old name.now ≡ Some text → IsFed 0 names [] tally.old.reader []
+            → edges_fault 0 names text ≡ Some (record { line = line; kind = kind })) }
     ensures cause { IfErr result (HasCauseIn (I.faults inputs.old name.now) (I.faults inputs.new name.now) (D.faults disk.old) (D.faults disk.new)) }
-    ensures any_moment { LeavesOnly D.moment D.left_since disk.old disk.new (From (D.may_leave disk.old) (OnlyFile file)) }
+    ensures any_moment { LeavesBy D.Disk disk.old disk.new (OnlyFile file) }
     ensures kept { I.told inputs.new ≡ I.told inputs.old }
-    ensures others { (other : List ℕ) → I.faults inputs.old other ≤ I.faults inputs.new other }
+    ensures others { NoCountFalls I.Inputs inputs.old inputs.new }
     ensures later { D.faults disk.old ≤ D.faults disk.new }
 {
     let mut place: u64 = 0;
@@ -65,10 +67,10 @@ fn copy_pieces<I: Inputs, D: Disk>(
             break;
         }
         disk.write_at(file, place, &piece[..n])?;
-        tally.take(alloc, &piece[..n])?;
+        tally.take(&piece[..n])?;
         place += n as u64;
     }
-    tally.finish(alloc)?;
+    tally.finish()?;
     Ok(place)
 }
 
@@ -97,15 +99,15 @@ pub fn copy_edges<I: Inputs, D: Disk>(
     ensures fault { IfErr result (λ e. (line : ℕ) (kind : AKind) (text : List ℕ) (names : List (List ℕ)) → e ≡ TextFault.Text line kind
         → I.told inputs.old name.now ≡ Some text → table ≡ distinct names → edges_fault 0 names text ≡ Some (record { line = line; kind = kind })) }
     ensures cause { IfErr result (HasCauseIn (I.faults inputs.old name.now) (I.faults inputs.new name.now) (D.faults disk.old) (D.faults disk.new)) }
-    ensures any_moment { LeavesOnly D.moment D.left_since disk.old disk.new (From (D.may_leave disk.old) (OnlyFile file)) }
+    ensures any_moment { LeavesBy D.Disk disk.old disk.new (OnlyFile file) }
     ensures kept { I.told inputs.new ≡ I.told inputs.old }
-    ensures others { (other : List ℕ) → I.faults inputs.old other ≤ I.faults inputs.new other }
+    ensures others { NoCountFalls I.Inputs inputs.old inputs.new }
     ensures later { D.faults disk.old ≤ D.faults disk.new }
 {
     let mut piece = Vec::from_elem(alloc, 0, PIECE_LEN)?;
     let mut tally = Tally::new(alloc, table)?;
     disk.cut(file, 0)?;
-    let len = copy_pieces(alloc, inputs, name, disk, file, &mut tally, &mut piece)?;
+    let len = copy_pieces(inputs, name, disk, file, &mut tally, &mut piece)?;
     let (degrees, labels) = tally.into_parts();
     Ok(Copied {
         len,

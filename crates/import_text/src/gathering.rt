@@ -68,21 +68,18 @@ impl Gathering {
     }
 
     /// Takes the next piece.
-    pub(crate) fn take(
-        &mut self,
-        alloc: Global,
-        normal: &Normal,
-        piece: &[u8],
-    ) -> Result<(), EdgesFault>
+    pub(crate) fn take(&mut self, normal: &Normal, piece: &[u8]) -> Result<(), EdgesFault>
         requires open { self.old.reader.is_open ≡ true }
         requires names { length self.old.reader.table ≤ 1000 }
         ensures taken { OnOk result (GathersPiece (normal_form normal.now) piece.now self.old self.new) }
         ensures text { IfErr result (λ e. e ≢ EdgesFault.ReadFailed) }
-        ensures fault { IfErr result (λ e. (line : ℕ) (kind : AKind) → e ≡ EdgesFault.Text line kind → (names : List (List ℕ)) (text : List ℕ) (front : List AnEdge)
-            → IsFed 0 names text self.old.reader front → (later : List ℕ) → edges_fault 0 names ((text ++ piece.now) ++ later) ≡ Some (record { line = line; kind = kind })) }
+        ensures fault { IfErr result (λ e. (line : ℕ) (kind : AKind) → e ≡ EdgesFault.Text line kind
+            → (names : List (List ℕ)) (text : List ℕ) (front : List AnEdge)
+            → IsFed 0 names text self.old.reader front → (later : List ℕ)
+                → edges_fault 0 names ((text ++ piece.now) ++ later) ≡ Some (record { line = line; kind = kind })) }
     {
         self.found.clear();
-        self.reader.feed(alloc, piece, &mut self.found)?;
+        self.reader.feed(piece, &mut self.found)?;
         self.vertices = self.vertices.max(vertex_count(&self.found));
         add_above(&mut self.given, normal, self.lo, self.hi, &self.found)?;
         // So a file of repeated lines takes no more memory than about twice the partition.
@@ -94,16 +91,17 @@ impl Gathering {
     }
 
     /// Takes the end of the file.
-    pub(crate) fn finish(&mut self, alloc: Global, normal: &Normal) -> Result<(), EdgesFault>
+    pub(crate) fn finish(&mut self, normal: &Normal) -> Result<(), EdgesFault>
         requires open { self.old.reader.is_open ≡ true }
         requires names { length self.old.reader.table ≤ 1000 }
         ensures taken { OnOk result (GathersEnd (normal_form normal.now) self.old self.new) }
         ensures text { IfErr result (λ e. e ≢ EdgesFault.ReadFailed) }
-        ensures fault { IfErr result (λ e. (line : ℕ) (kind : AKind) → e ≡ EdgesFault.Text line kind → (names : List (List ℕ)) (text : List ℕ) (front : List AnEdge)
+        ensures fault { IfErr result (λ e. (line : ℕ) (kind : AKind) → e ≡ EdgesFault.Text line kind
+            → (names : List (List ℕ)) (text : List ℕ) (front : List AnEdge)
             → IsFed 0 names text self.old.reader front → edges_fault 0 names text ≡ Some (record { line = line; kind = kind })) }
     {
         self.found.clear();
-        self.reader.finish(alloc, &mut self.found)?;
+        self.reader.finish(&mut self.found)?;
         self.vertices = self.vertices.max(vertex_count(&self.found));
         add_above(&mut self.given, normal, self.lo, self.hi, &self.found)?;
         Ok(())

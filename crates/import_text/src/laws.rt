@@ -7,5 +7,6 @@ ghost use Rattle.import_text.specs.Reading.{IsGoodCopy};
 /// The text that was copied is a good copy by the length, the labels and the count of vertices that the copying told,
 /// so no reading of it answers `BadCopy` while the disk keeps it.
 pub fn copies_are_good()
-    ensures { (names : List (List ℕ)) (text : List ℕ) (edges : List Edge) (labels : List (List ℕ)) → ReadsEdges 0 names text edges labels → IsGoodCopy labels (length text) (vertex_count_of edges) text }
+    ensures { (names : List (List ℕ)) (text : List ℕ) (edges : List Edge) (labels : List (List ℕ))
+        → ReadsEdges 0 names text edges labels → IsGoodCopy labels (length text) (vertex_count_of edges) text }
 {}

@@ -23,7 +23,8 @@ pub(crate) fn part_of(
     requires from { All (IsFrom lo hi) given.items }
     ensures bounds { IfOk result (λ p. (p.lo ≡ lo) × (p.hi ≡ hi)) }
     ensures part { IfOk result IsPart }
-    ensures edges { IfOk result (λ p. (b : ABorn) → Contains p.edges b ↔ ((Contains given.items b.edge ⊎ IsLoopIn (normal_form normal.now) lo hi b.edge) × (b.birth ≡ 0))) }
+    ensures edges { IfOk result (λ p. (b : ABorn) → Contains p.edges b
+        ↔ ((Contains given.items b.edge ⊎ IsLoopIn (normal_form normal.now) lo hi b.edge) × (b.birth ≡ 0))) }
     ensures few { IfOk result (λ p. length p.edges < 2 ^ 64) }
 {
     let mut edges = given;

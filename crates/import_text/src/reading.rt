@@ -1,10 +1,10 @@
 //! A copy is read again for one partition.
 ghost use Rattle.std.specs.Prelude.{◌≡◌, ◌<◌, ◌≤◌, ℕ, List, [], None, true, All, IsTrue, IfOk, IfErr, OnOk, length};
+ghost use Rattle.disk_model.specs.View.{OnlyLooks};
 ghost use Rattle.graph_words.specs.Text.{distinct};
 ghost use Rattle.normal_law.specs.NormalForm.{normal_form};
 ghost use Rattle.edge_text.specs.EdgesText.{edges_fault};
 ghost use Rattle.edge_text.specs.Feeding.{IsFed};
-ghost use Rattle.manifest_switch.specs.Looks.{OnlyLooks};
 ghost use Rattle.partition_file.specs.Spelling.{Fits};
 ghost use Rattle.import_text.specs.Reading.{reading_fault as fault_of_reading, GathersFile, GathersCopy, GivesPart, IsGoodCopy, HasCauseOn, expect_given};
 
@@ -33,7 +33,6 @@ fn reading_fault(fault: EdgesFault) -> TextFault
 
 /// Reads a file of the disk piece by piece, and tells its length.
 fn gather_pieces<D: Disk>(
-    alloc: Global,
     disk: &mut D,
     file: u32,
     normal: &Normal,
@@ -51,7 +50,7 @@ fn gather_pieces<D: Disk>(
         → edges_fault 0 names (D.seen disk.old file) ≡ None → ⊥) }
     ensures cause { IfErr result (HasCauseOn (D.faults disk.old) (D.faults disk.new)) }
     ensures later { D.faults disk.old ≤ D.faults disk.new }
-    ensures looks { OnlyLooks D.seen D.may_leave D.moment D.left_since disk.old disk.new }
+    ensures looks { OnlyLooks D.Disk disk.old disk.new }
 {
     let mut place: u64 = 0;
     loop {
@@ -59,12 +58,12 @@ fn gather_pieces<D: Disk>(
         if n == 0 {
             break;
         }
-        if let Err(fault) = gathering.take(alloc, normal, &piece[..n]) {
+        if let Err(fault) = gathering.take(normal, &piece[..n]) {
             return Err(reading_fault(fault));
         }
         place += n as u64;
     }
-    if let Err(fault) = gathering.finish(alloc, normal) {
+    if let Err(fault) = gathering.finish(normal) {
         return Err(reading_fault(fault));
     }
     Ok(place)
@@ -83,17 +82,18 @@ fn gather_copy<D: Disk>(
     hi: u32,
 ) -> Result<Vec<Edge>, TextFault>
     requires file { file < 1024 }
-    ensures gathered { IfOk result (λ given. GathersCopy (normal_form normal.now) labels.now len vertices lo hi (IsTrue D.tells) (D.seen disk.old file) given.items) }
+    ensures gathered { IfOk result (λ given. GathersCopy (normal_form normal.now) labels.now len vertices lo hi
+        (IsTrue D.tells) (D.seen disk.old file) given.items) }
     ensures bad { IfErr result (λ e. e ≡ TextFault.BadCopy → IsTrue D.tells → IsGoodCopy labels.now len vertices (D.seen disk.old file) → ⊥) }
     ensures cause { IfErr result (HasCauseOn (D.faults disk.old) (D.faults disk.new)) }
     ensures later { D.faults disk.old ≤ D.faults disk.new }
-    ensures looks { OnlyLooks D.seen D.may_leave D.moment D.left_since disk.old disk.new }
+    ensures looks { OnlyLooks D.Disk disk.old disk.new }
 {
     // Names stand once in a table, so that only new ones make it longer.
     let names = labels.names().len();
     let mut piece = Vec::from_elem(alloc, 0, PIECE_LEN)?;
     let mut gathering = Gathering::new(alloc, labels.copy()?, lo, hi)?;
-    let found = gather_pieces(alloc, disk, file, normal, &mut gathering, &mut piece)?;
+    let found = gather_pieces(disk, file, normal, &mut gathering, &mut piece)?;
     if found != len {
         return Err(TextFault::BadCopy);
     }
@@ -137,7 +137,7 @@ pub fn given_edges<D: Disk>(
     ensures bad { IfErr result (λ e. e ≡ TextFault.BadCopy → IsTrue D.tells → IsGoodCopy labels.now len vertices (D.seen disk.old file) → ⊥) }
     ensures cause { IfErr result (HasCauseOn (D.faults disk.old) (D.faults disk.new)) }
     ensures later { D.faults disk.old ≤ D.faults disk.new }
-    ensures looks { OnlyLooks D.seen D.may_leave D.moment D.left_since disk.old disk.new }
+    ensures looks { OnlyLooks D.Disk disk.old disk.new }
 {
     // There are few fresh labels, so that each label's number fits the file of a partition.
     let _fresh = normal.fresh();

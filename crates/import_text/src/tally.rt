@@ -47,31 +47,34 @@ impl Tally {
     }
 
     /// Takes the next piece.
-    pub(crate) fn take(&mut self, alloc: Global, piece: &[u8]) -> Result<(), EdgesFault>
+    pub(crate) fn take(&mut self, piece: &[u8]) -> Result<(), EdgesFault>
         requires open { self.old.reader.is_open ≡ true }
         requires room { sum self.old.degrees + length piece.now < 2 ^ 64 }
         ensures taken { OnOk result (TakesPiece piece.now self.old self.new) }
         ensures text { IfErr result (λ e. e ≢ EdgesFault.ReadFailed) }
-        ensures fault { IfErr result (λ e. (line : ℕ) (kind : AKind) → e ≡ EdgesFault.Text line kind → (names : List (List ℕ)) (text : List ℕ) (front : List AnEdge)
-            → IsFed 0 names text self.old.reader front → (later : List ℕ) → edges_fault 0 names ((text ++ piece.now) ++ later) ≡ Some (record { line = line; kind = kind })) }
+        ensures fault { IfErr result (λ e. (line : ℕ) (kind : AKind) → e ≡ EdgesFault.Text line kind
+            → (names : List (List ℕ)) (text : List ℕ) (front : List AnEdge)
+            → IsFed 0 names text self.old.reader front → (later : List ℕ)
+                → edges_fault 0 names ((text ++ piece.now) ++ later) ≡ Some (record { line = line; kind = kind })) }
     {
         self.edges.clear();
-        self.reader.feed(alloc, piece, &mut self.edges)?;
+        self.reader.feed(piece, &mut self.edges)?;
         self.degrees.count_all(&self.edges)?;
         Ok(())
     }
 
     /// Takes the end of the file.
-    pub(crate) fn finish(&mut self, alloc: Global) -> Result<(), EdgesFault>
+    pub(crate) fn finish(&mut self) -> Result<(), EdgesFault>
         requires open { self.old.reader.is_open ≡ true }
         requires room { sum self.old.degrees + 1 < 2 ^ 64 }
         ensures taken { OnOk result (TakesEnd self.old self.new) }
         ensures text { IfErr result (λ e. e ≢ EdgesFault.ReadFailed) }
-        ensures fault { IfErr result (λ e. (line : ℕ) (kind : AKind) → e ≡ EdgesFault.Text line kind → (names : List (List ℕ)) (text : List ℕ) (front : List AnEdge)
+        ensures fault { IfErr result (λ e. (line : ℕ) (kind : AKind) → e ≡ EdgesFault.Text line kind
+            → (names : List (List ℕ)) (text : List ℕ) (front : List AnEdge)
             → IsFed 0 names text self.old.reader front → edges_fault 0 names text ≡ Some (record { line = line; kind = kind })) }
     {
         self.edges.clear();
-        self.reader.finish(alloc, &mut self.edges)?;
+        self.reader.finish(&mut self.edges)?;
         self.degrees.count_all(&self.edges)?;
         Ok(())
     }

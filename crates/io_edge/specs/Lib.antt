@@ -1,4 +1,5 @@
 pub mod Devices
+pub mod View
 pub mod Lines
 pub mod Cutting
 pub mod FirstFault

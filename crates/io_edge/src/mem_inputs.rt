@@ -87,7 +87,8 @@ fn read_call(
     buf: &mut [u8],
 ) -> Result<usize, Failed>
     ensures failed { IsErr result ↔ (Contains failing.now call ⊎ (first_named files.now name.now ≡ None)) }
-    ensures bytes { IfOk result (λ n. (file : List ℕ) → first_named files.now name.now ≡ Some file → Gives file at buf.new n × (n ≡ read_len file at (length buf.new))) }
+    ensures bytes { IfOk result (λ n. (file : List ℕ) → first_named files.now name.now ≡ Some file
+        → Gives file at buf.new n × (n ≡ read_len file at (length buf.new))) }
     ensures count { IfOk result (λ n. n ≤ length buf.new) }
 {
     if failing.contains(&call) {

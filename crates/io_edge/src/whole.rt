@@ -3,6 +3,7 @@ ghost use Rattle.std.specs.Prelude.{◌≡◌, ◌+◌, ◌<◌, ◌≤◌, ◌^
 ghost use Rattle.io_edge.specs.Devices.{Rose};
 ghost use Rattle.io_edge.specs.Reading.{ReadsWhole};
 ghost use Rattle.io_edge.specs.declared.whole.ReadFault.TheVariants.{ReadFailed, NoMemory};
+ghost use Rattle.io_edge.specs.View.{NoCountFalls};
 
 use crate::{Failed, Inputs};
 use std::alloc::{AllocError, Global};
@@ -51,7 +52,7 @@ pub fn read_whole<I: Inputs>(
     ensures len { IfOk result (λ v. vec_len v ≤ limit + 65536) }
     ensures failed { IsErrOf result ReadFault.ReadFailed → Rose (I.faults inputs.old name.now) (I.faults inputs.new name.now) }
     ensures kept { I.told inputs.new ≡ I.told inputs.old }
-    ensures others { (other : List ℕ) → I.faults inputs.old other ≤ I.faults inputs.new other }
+    ensures others { NoCountFalls I.Inputs inputs.old inputs.new }
 {
     let mut whole = Vec::new(alloc);
     let mut buf = new_piece(alloc)?;

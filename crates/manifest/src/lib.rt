@@ -1,22 +1,13 @@
-//! A store's manifest as bytes: what it says of its texts, labels, partitions, counts and marks.
+//! A store's manifest: its bytes, and the two slots that hold them.
+//!
+//! It hands on `manifest_codec`, what a manifest says and how it is spelled, and `manifest_switch`, which of two slots is
+//! current and how another manifest takes its place at once.
 #![tactic(auto)]
 
-mod cells;
-mod decoding;
-mod encoding;
-mod fields;
-mod labels;
-mod laws;
-mod parts;
-mod prefix_law;
-mod types;
-
-pub use decoding::decode;
-pub use encoding::encode;
-pub use fields::labels_place;
-pub use laws::{
-    encode_then_decode, has_bytes, longest_spelling, magics_are_spelled, no_shared_spelling,
-    reading_is_spelling, spelling_is_read,
+pub use manifest_codec::{
+    Manifest, ManifestError, ManifestFault, PartEntry, PartList, Version, decode, encode,
 };
-pub use prefix_law::more_bytes_change_nothing;
-pub use types::{Manifest, ManifestError, ManifestFault, PartEntry, PartList, Version};
+pub use manifest_switch::{
+    Found, OpenFault, Slot, SwitchFault, close_gate, close_other, current, open_gate, switch,
+    write_body,
+};

@@ -3,12 +3,12 @@ use Rattle.std.proofs.Common.{◌≡◌, inl, inr, ℕ, suc, ◌+◌, ◌<◌, �
 use Rattle.std.specs.Prelude.{Result, Ok, Err}
 use Rattle.std.proofs.lemmas.List.{ext_get_or, take_all, take-append-le, take-append-drop}
 use Rattle.disk_model.specs.Disk.{written}
-use Rattle.manifest.specs.declared.types.Manifest.{Manifest}
-use Rattle.manifest.specs.declared.types.ManifestFault.{ManifestFault}
-use Rattle.manifest.specs.Reading.{reading, body_at, front_at, head_at}
-use Rattle.manifest.specs.Rules.{newest_version}
-use Rattle.manifest.specs.Spelling.{Fits, Spells, spelling}
-use Rattle.manifest.specs.Prefix.{IsCut, Settles}
+use Rattle.manifest_codec.specs.declared.types.Manifest.{Manifest}
+use Rattle.manifest_codec.specs.declared.types.ManifestFault.{ManifestFault}
+use Rattle.manifest_codec.specs.Reading.{reading, body_at, front_at, head_at}
+use Rattle.manifest_codec.specs.Rules.{newest_version}
+use Rattle.manifest_codec.specs.Spelling.{Fits, Spells, spelling}
+use Rattle.manifest_codec.specs.Prefix.{IsCut, Settles}
 use Rattle.manifest_switch.specs.Slots.{body, value_of}
 use Rattle.manifest_switch.specs.Answers.{IsCutShort}
 

@@ -1,8 +1,8 @@
 -- What the two slots say together.
 use Rattle.std.proofs.Common.{◌≡◌, ℕ, sym, refl, ◌∙◌, ap}
 use Rattle.std.specs.Prelude.{Bool, true, false, if◌then◌else◌, ◌==◌, Option, Some, None, Result, Ok, Err, option_map, IsErrAnd}
-use Rattle.manifest.specs.declared.types.Manifest.{Manifest}
-use Rattle.manifest.specs.declared.types.ManifestFault.{ManifestFault}
+use Rattle.manifest_codec.specs.declared.types.Manifest.{Manifest}
+use Rattle.manifest_codec.specs.declared.types.ManifestFault.{ManifestFault}
 use Rattle.manifest_switch.specs.declared.slot.Slot.{Slot}
 use Rattle.manifest_switch.specs.declared.slot.Slot.TheVariants.{Zero, One}
 use Rattle.manifest_switch.specs.declared.slot.Found.{Found}

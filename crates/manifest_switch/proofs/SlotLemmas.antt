@@ -6,8 +6,8 @@ use Rattle.std.proofs.lemmas.Bool.Decides.{nat_tests}
 use Rattle.disk_model.specs.Disk.{Contents, TornIn, written}
 use Rattle.disk_model.specs.Crash.{From, Mixes}
 use Rattle.disk_model.specs.Sound.{length-written, written-here, written-above}
-use Rattle.manifest.specs.declared.types.Manifest.{Manifest}
-use Rattle.manifest.specs.declared.types.ManifestFault.{ManifestFault}
+use Rattle.manifest_codec.specs.declared.types.Manifest.{Manifest}
+use Rattle.manifest_codec.specs.declared.types.ManifestFault.{ManifestFault}
 use Rattle.manifest_switch.specs.Slots.{file_of, other, is_open, open_body, body, chosen, current_of, later_of, next_generation, is_loose, with_closed_gate, IsClosed}
 use Rattle.manifest_switch.specs.Steps.{MayClose, Keeps, Succeeds, IsReady, Opens, Stays, Switches}
 use Rattle.manifest_switch.specs.declared.slot.Slot.{Slot}

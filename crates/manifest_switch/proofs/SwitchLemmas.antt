@@ -3,7 +3,7 @@ use Rattle.std.proofs.Common.{◌≡◌, ◌≢◌, inr, ℕ, List, [], ◌∷�
 use Rattle.std.specs.Prelude.{false, Some, Ok}
 use Rattle.disk_model.specs.Disk.{Contents, Sets, written}
 use Rattle.disk_model.specs.Sound.{written-below, written-lengths}
-use Rattle.manifest.specs.declared.types.Manifest.{Manifest}
+use Rattle.manifest_codec.specs.declared.types.Manifest.{Manifest}
 use Rattle.manifest_switch.specs.Slots.{file_of, other, is_open, open_body, body, chosen, current_of, next_generation, with_closed_gate, IsClosed, HasOnly}
 use Rattle.manifest_switch.specs.Steps.{MayClose, Keeps, Opens, Switches, Succeeds, IsReady, IsPlaced, IsSwitched}
 use Rattle.manifest_switch.specs.declared.slot.Slot.{Slot}

@@ -2,12 +2,12 @@
 use Rattle.std.specs.Prelude.{◌≡◌, ℕ, ◌+◌, true, false, List, length, Option, Some, None, Result, Ok, Err}
 use Rattle.disk_model.specs.Disk.{Rose}
 use Rattle.disk_model.specs.declared.form_kind.FormKind.TheVariants.{Short}
-use Rattle.manifest.specs.declared.types.Manifest.{Manifest}
-use Rattle.manifest.specs.declared.types.ManifestFault.{ManifestFault}
+use Rattle.manifest_codec.specs.declared.types.Manifest.{Manifest}
+use Rattle.manifest_codec.specs.declared.types.ManifestFault.{ManifestFault}
 use Rattle.manifest_switch.specs.declared.slot.Slot.{Slot}
 use Rattle.manifest_switch.specs.declared.slot.Found.{Found}
 use Rattle.manifest_switch.specs.declared.slot.Found.TheVariants.{Blank, At}
-use Rattle.manifest.specs.Spelling.{Fits}
+use Rattle.manifest_codec.specs.Spelling.{Fits}
 use Rattle.manifest_switch.specs.declared.slot.OpenFault.{OpenFault}
 use Rattle.manifest_switch.specs.declared.slot.OpenFault.TheVariants.{DiskFault, BadStore, NoMemory}
 use Rattle.manifest_switch.specs.Slots.{is_open, bad_body}

@@ -1,4 +1,3 @@
 pub mod Slots
 pub mod Steps
-pub mod Looks
 pub mod Answers

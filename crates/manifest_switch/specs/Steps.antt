@@ -2,7 +2,7 @@
 use Rattle.std.specs.Prelude.{◌≡◌, ◌≢◌, ◌⊎◌, ℕ, false, Option, Some, None, Result, Ok, Err}
 use Rattle.disk_model.specs.Disk.{Contents, Rose}
 use Rattle.disk_model.specs.Crash.{From}
-use Rattle.manifest.specs.declared.types.Manifest.{Manifest}
+use Rattle.manifest_codec.specs.declared.types.Manifest.{Manifest}
 use Rattle.manifest_switch.specs.declared.slot.Slot.{Slot}
 use Rattle.manifest_switch.specs.declared.slot.Slot.TheVariants.{Zero}
 use Rattle.manifest_switch.specs.declared.slot.Found.TheVariants.{At}
@@ -21,7 +21,9 @@ pub record Keeps (s : Slot) (old new : Contents) : Type 0 where
 
 -- the other slot isn't open, or the generation follows that of its manifest
 abbrev pub Succeeds : Slot → Manifest → Contents → Type 0
-Succeeds s m c = (is_open (c (file_of (other s))) ≡ false) ⊎ ((o : Manifest) × (open_body (c (file_of (other s))) ≡ Some (Ok o)) × (m.generation ≡ next_generation o.generation))
+Succeeds s m c = (is_open (c (file_of (other s))) ≡ false)
+    ⊎ ((o : Manifest) × (open_body (c (file_of (other s))) ≡ Some (Ok o))
+    × (m.generation ≡ next_generation o.generation))
 
 -- the slot isn't open, and has the body of a manifest that may become the current one
 pub record IsReady (s : Slot) (c : Contents) : Type 0 where

@@ -1,12 +1,11 @@
 //! The slot beside the current one is closed, so that the current one is the only open one.
 ghost use Rattle.std.specs.Prelude.{◌≡◌, ◌<◌, false, Bool, IsTrue, Ok, OnOk};
 ghost use Rattle.disk_model.specs.Disk.{Contents, HasCause};
-ghost use Rattle.disk_model.specs.Crash.{LeavesJust, LeavesOnly, From};
-ghost use Rattle.manifest.specs.declared.types.Manifest.{Manifest};
+ghost use Rattle.disk_model.specs.View.{IsDurable, LeavesBy, OnlyLooks};
+ghost use Rattle.manifest_codec.specs.declared.types.Manifest.{Manifest};
 ghost use Rattle.manifest_switch.specs.declared.slot.Found.TheVariants.{At};
 ghost use Rattle.manifest_switch.specs.Slots.{file_of, other, is_open, current_of, HasOnly};
 ghost use Rattle.manifest_switch.specs.Steps.{Keeps};
-ghost use Rattle.manifest_switch.specs.Looks.{OnlyLooks};
 
 use crate::gates::close_gate;
 use crate::reading::open_len;
@@ -22,12 +21,13 @@ use disk_model::{Disk, Failed};
 /// `Failed` comes only where the disk's count rose.
 pub fn close_other<D: Disk>(disk: &mut D, slot: Slot) -> Result<(), Failed>
     requires current { (c : Contents) → D.may_leave disk.old c → (m : Manifest) × (current_of c ≡ Ok (At slot m)) }
-    requires alike { LeavesJust (D.seen disk.old) (D.may_leave disk.old) }
-    ensures any_moment { LeavesOnly D.moment D.left_since disk.old disk.new (From (D.may_leave disk.old) (Keeps (other slot))) }
-    ensures only { (m : Manifest) → current_of (D.seen disk.old) ≡ Ok (At slot m) → OnOk result ((c : Contents) → D.may_leave disk.new c → HasOnly slot m c) }
+    requires alike { IsDurable D.Disk disk.old }
+    ensures any_moment { LeavesBy D.Disk disk.old disk.new (Keeps (other slot)) }
+    ensures only { (m : Manifest) → current_of (D.seen disk.old) ≡ Ok (At slot m)
+        → OnOk result ((c : Contents) → D.may_leave disk.new c → HasOnly slot m c) }
     ensures seen { IsTrue D.tells → OnOk result (Keeps (other slot) (D.seen disk.old) (D.seen disk.new)) }
-    ensures synced { OnOk result (LeavesJust (D.seen disk.new) (D.may_leave disk.new)) }
-    ensures looks { IsTrue D.tells → is_open (D.seen disk.old (file_of (other slot))) ≡ false → OnlyLooks D.seen D.may_leave D.moment D.left_since disk.old disk.new }
+    ensures synced { OnOk result (IsDurable D.Disk disk.new) }
+    ensures looks { IsTrue D.tells → is_open (D.seen disk.old (file_of (other slot))) ≡ false → OnlyLooks D.Disk disk.old disk.new }
     ensures cause { HasCause (D.faults disk.old) (D.faults disk.new) result }
 {
     let beside = slot.other();

@@ -1,10 +1,9 @@
 //! The parts of a commit: a gate is closed, a body written behind it, and the gate opened. Each ends with a sync.
 ghost use Rattle.std.specs.Prelude.{◌≡◌, ◌≢◌, ◌⊎◌, ◌+◌, ◌%◌, ◌<◌, ◌∷◌, [], ℕ, Bool, IsTrue, true, false, length, slice_index, Option, Some, None, OnOk, IfOk};
 ghost use Rattle.disk_model.specs.Disk.{Contents, HasCause, Sets, written};
-ghost use Rattle.disk_model.specs.Crash.{NoMore, Elapses, LeavesJust, LeavesOnly, From};
+ghost use Rattle.disk_model.specs.View.{IsDurable, LeavesBy, OnlyLooks};
 ghost use Rattle.manifest_switch.specs.Slots.{file_of, is_loose, with_closed_gate, IsClosed};
 ghost use Rattle.manifest_switch.specs.Steps.{Keeps, MayClose, IsReady, Opens};
-ghost use Rattle.manifest_switch.specs.Looks.{OnlyLooks};
 
 use crate::slot::Slot;
 use disk_model::{Disk, Failed};
@@ -19,7 +18,7 @@ const CLOSED: u8 = 0;
 #[tactic(auto, unfolding(crate::specs::Slots::is_loose))]
 fn is_loose<D: Disk>(disk: &mut D, slot: Slot) -> Result<bool, Failed>
     ensures loose { IsTrue D.tells → IfOk result (λ b. b ≡ is_loose (D.seen disk.old (file_of slot))) }
-    ensures looks { OnlyLooks D.seen D.may_leave D.moment D.left_since disk.old disk.new }
+    ensures looks { OnlyLooks D.Disk disk.old disk.new }
     ensures cause { HasCause (D.faults disk.old) (D.faults disk.new) result }
 {
     let mut gate = [0];
@@ -30,8 +29,10 @@ fn is_loose<D: Disk>(disk: &mut D, slot: Slot) -> Result<bool, Failed>
 // Writes a closed gate where it has to be.
 fn shut<D: Disk>(disk: &mut D, slot: Slot) -> Result<(), Failed>
     requires { (c : Contents) → D.may_leave disk.old c → MayClose slot c }
-    ensures any_moment { LeavesOnly D.moment D.left_since disk.old disk.new (From (D.may_leave disk.old) (Keeps slot)) }
-    ensures reads { IsTrue D.tells → OnOk result (Sets (file_of slot) (with_closed_gate (D.seen disk.old (file_of slot))) (D.seen disk.old) (D.seen disk.new)) }
+    ensures any_moment { LeavesBy D.Disk disk.old disk.new (Keeps slot) }
+    ensures reads { IsTrue D.tells → OnOk result
+        (Sets (file_of slot) (with_closed_gate (D.seen disk.old (file_of slot))) (D.seen disk.old)
+        (D.seen disk.new)) }
     ensures cause { HasCause (D.faults disk.old) (D.faults disk.new) result }
 {
     if !is_loose(disk, slot)? {
@@ -48,9 +49,11 @@ fn shut<D: Disk>(disk: &mut D, slot: Slot) -> Result<(), Failed>
 /// again: a torn write could open it. `Failed` comes only where the disk's count rose.
 pub fn close_gate<D: Disk>(disk: &mut D, slot: Slot) -> Result<(), Failed>
     requires { (c : Contents) → D.may_leave disk.old c → MayClose slot c }
-    ensures any_moment { LeavesOnly D.moment D.left_since disk.old disk.new (From (D.may_leave disk.old) (Keeps slot)) }
-    ensures reads { IsTrue D.tells → OnOk result (Sets (file_of slot) (with_closed_gate (D.seen disk.old (file_of slot))) (D.seen disk.old) (D.seen disk.new)) }
-    ensures synced { OnOk result (LeavesJust (D.seen disk.new) (D.may_leave disk.new)) }
+    ensures any_moment { LeavesBy D.Disk disk.old disk.new (Keeps slot) }
+    ensures reads { IsTrue D.tells → OnOk result
+        (Sets (file_of slot) (with_closed_gate (D.seen disk.old (file_of slot))) (D.seen disk.old)
+        (D.seen disk.new)) }
+    ensures synced { OnOk result (IsDurable D.Disk disk.new) }
     ensures cause { HasCause (D.faults disk.old) (D.faults disk.new) result }
 {
     shut(disk, slot)?;
@@ -64,9 +67,11 @@ pub fn close_gate<D: Disk>(disk: &mut D, slot: Slot) -> Result<(), Failed>
 /// other files as they were. `Failed` comes only where the disk's count rose.
 pub fn write_body<D: Disk>(disk: &mut D, slot: Slot, body: &[u8]) -> Result<(), Failed>
     requires { (c : Contents) → D.may_leave disk.old c → IsClosed (c (file_of slot)) }
-    ensures any_moment { LeavesOnly D.moment D.left_since disk.old disk.new (From (D.may_leave disk.old) (Keeps slot)) }
-    ensures reads { IsTrue D.tells → OnOk result (Sets (file_of slot) (written (D.seen disk.old (file_of slot)) 1 body.now) (D.seen disk.old) (D.seen disk.new)) }
-    ensures synced { OnOk result (LeavesJust (D.seen disk.new) (D.may_leave disk.new)) }
+    ensures any_moment { LeavesBy D.Disk disk.old disk.new (Keeps slot) }
+    ensures reads { IsTrue D.tells → OnOk result
+        (Sets (file_of slot) (written (D.seen disk.old (file_of slot)) 1 body.now) (D.seen disk.old)
+        (D.seen disk.new)) }
+    ensures synced { OnOk result (IsDurable D.Disk disk.new) }
     ensures cause { HasCause (D.faults disk.old) (D.faults disk.new) result }
 {
     disk.write_at(slot.file(), 1, body)?;
@@ -82,9 +87,11 @@ pub fn write_body<D: Disk>(disk: &mut D, slot: Slot, body: &[u8]) -> Result<(), 
 /// the disk's count rose.
 pub fn open_gate<D: Disk>(disk: &mut D, slot: Slot) -> Result<(), Failed>
     requires { (c : Contents) → D.may_leave disk.old c → IsReady slot c }
-    ensures any_moment { LeavesOnly D.moment D.left_since disk.old disk.new (From (D.may_leave disk.old) (Opens slot)) }
-    ensures reads { IsTrue D.tells → OnOk result (Sets (file_of slot) (written (D.seen disk.old (file_of slot)) 0 (1 ∷ [])) (D.seen disk.old) (D.seen disk.new)) }
-    ensures synced { OnOk result (LeavesJust (D.seen disk.new) (D.may_leave disk.new)) }
+    ensures any_moment { LeavesBy D.Disk disk.old disk.new (Opens slot) }
+    ensures reads { IsTrue D.tells → OnOk result
+        (Sets (file_of slot) (written (D.seen disk.old (file_of slot)) 0 (1 ∷ [])) (D.seen disk.old)
+        (D.seen disk.new)) }
+    ensures synced { OnOk result (IsDurable D.Disk disk.new) }
     ensures cause { HasCause (D.faults disk.old) (D.faults disk.new) result }
 {
     disk.write_at(slot.file(), 0, &[OPEN])?;

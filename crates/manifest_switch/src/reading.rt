@@ -1,17 +1,17 @@
 //! Which slot is current.
 ghost use Rattle.std.specs.Prelude.{◌≡◌, ◌≢◌, ◌⊎◌, ◌+◌, ◌-◌, ◌<◌, ◌≤◌, ◌^◌, ◌==◌, slice_index, ℕ, Bool, IsTrue, true, false, length, take, drop, Option, Some, None, Ok, Err, OnOk, IfOk, IfSome, option_map};
 ghost use Rattle.disk_model.specs.Disk.{Contents, HasCause};
-ghost use Rattle.manifest.specs.Reading.{reading};
-ghost use Rattle.manifest.specs.Spelling.{Fits};
+ghost use Rattle.disk_model.specs.View.{OnlyLooks};
+ghost use Rattle.manifest_codec.specs.Reading.{reading};
+ghost use Rattle.manifest_codec.specs.Spelling.{Fits};
 ghost use Rattle.manifest_switch.specs.declared.slot.Slot.{Slot};
 ghost use Rattle.manifest_switch.specs.Slots.{file_of, is_open, value_of, open_body, body, chosen, later_of, next_generation, current_of};
-ghost use Rattle.manifest_switch.specs.Looks.{OnlyLooks};
 ghost use Rattle.manifest_switch.specs.Answers.{HoldsFit, HasOpenCause, Gives, IsCutShort, AnswersOpen, AnswersSlot, AnswersCurrent};
 
 use crate::gates::OPEN;
 use crate::slot::{Found, OpenFault, Slot};
 use disk_model::{Disk, Failed, FormKind};
-use manifest::{Manifest, ManifestError, ManifestFault, decode, more_bytes_change_nothing};
+use manifest_codec::{Manifest, ManifestError, ManifestFault, decode, more_bytes_change_nothing};
 use std::alloc::Global;
 
 /// How many bytes of a body are read at first. They are enough for most manifests.
@@ -26,7 +26,7 @@ fn front_of<D: Disk>(
 ) -> Result<Vec<u8>, OpenFault>
     requires { 1 + size < 2 ^ 64 }
     ensures front { IsTrue D.tells → Gives result (λ v. v.items ≡ take size (drop 1 (D.seen disk.old (file_of slot)))) }
-    ensures looks { OnlyLooks D.seen D.may_leave D.moment D.left_since disk.old disk.new }
+    ensures looks { OnlyLooks D.Disk disk.old disk.new }
     ensures later { D.faults disk.old ≤ D.faults disk.new }
     ensures cause { HasOpenCause (D.faults disk.old) (D.faults disk.new) result }
 {
@@ -46,7 +46,7 @@ fn front_says<D: Disk>(
     requires { 1 + size < 2 ^ 64 }
     ensures fits { IfOk result (λ r. IfOk r Fits) }
     ensures says { IsTrue D.tells → Gives result (λ r. r ≡ value_of (reading (take size (drop 1 (D.seen disk.old (file_of slot)))))) }
-    ensures looks { OnlyLooks D.seen D.may_leave D.moment D.left_since disk.old disk.new }
+    ensures looks { OnlyLooks D.Disk disk.old disk.new }
     ensures later { D.faults disk.old ≤ D.faults disk.new }
     ensures cause { HasOpenCause (D.faults disk.old) (D.faults disk.new) result }
 {
@@ -84,7 +84,7 @@ fn body_of<D: Disk>(
     requires all { IsTrue D.tells → length (D.seen disk.old (file_of slot)) ≡ 1 + all }
     ensures fits { IfOk result (λ r. IfOk r Fits) }
     ensures says { IsTrue D.tells → Gives result (λ r. r ≡ body (D.seen disk.old (file_of slot))) }
-    ensures looks { OnlyLooks D.seen D.may_leave D.moment D.left_since disk.old disk.new }
+    ensures looks { OnlyLooks D.Disk disk.old disk.new }
     ensures later { D.faults disk.old ≤ D.faults disk.new }
     ensures cause { HasOpenCause (D.faults disk.old) (D.faults disk.new) result }
 {
@@ -103,7 +103,7 @@ fn body_of<D: Disk>(
 // Whether a slot's gate is 1.
 fn has_open_gate<D: Disk>(disk: &mut D, slot: Slot) -> Result<bool, Failed>
     ensures gate { IsTrue D.tells → IfOk result (λ b. b ≡ (slice_index (D.seen disk.old (file_of slot)) 0 == 1)) }
-    ensures looks { OnlyLooks D.seen D.may_leave D.moment D.left_since disk.old disk.new }
+    ensures looks { OnlyLooks D.Disk disk.old disk.new }
     ensures cause { HasCause (D.faults disk.old) (D.faults disk.new) result }
 {
     let mut gate = [0];
@@ -116,7 +116,7 @@ fn has_open_gate<D: Disk>(disk: &mut D, slot: Slot) -> Result<bool, Failed>
 pub(crate) fn open_len<D: Disk>(disk: &mut D, slot: Slot) -> Result<Option<u64>, Failed>
     ensures open { IsTrue D.tells → IfOk result (AnswersOpen (D.seen disk.old (file_of slot))) }
     ensures small { IfOk result (λ len. IfSome len (λ n. 1 + n < 2 ^ 64)) }
-    ensures looks { OnlyLooks D.seen D.may_leave D.moment D.left_since disk.old disk.new }
+    ensures looks { OnlyLooks D.Disk disk.old disk.new }
     ensures cause { HasCause (D.faults disk.old) (D.faults disk.new) result }
 {
     let len = disk.len(slot.file())?;
@@ -134,7 +134,7 @@ pub(crate) fn open_len<D: Disk>(disk: &mut D, slot: Slot) -> Result<Option<u64>,
 fn slot_of<D: Disk>(alloc: Global, disk: &mut D, slot: Slot) -> Result<Option<Manifest>, OpenFault>
     ensures fits { IfOk result (λ m. IfSome m Fits) }
     ensures slot { IsTrue D.tells → AnswersSlot slot (open_body (D.seen disk.old (file_of slot))) result }
-    ensures looks { OnlyLooks D.seen D.may_leave D.moment D.left_since disk.old disk.new }
+    ensures looks { OnlyLooks D.Disk disk.old disk.new }
     ensures later { D.faults disk.old ≤ D.faults disk.new }
     ensures cause { HasOpenCause (D.faults disk.old) (D.faults disk.new) result }
 {
@@ -206,7 +206,7 @@ fn chosen(first: Option<Manifest>, second: Option<Manifest>) -> Result<Found, Op
 pub fn current<D: Disk>(alloc: Global, disk: &mut D) -> Result<Found, OpenFault>
     ensures fits { IfOk result HoldsFit }
     ensures found { IsTrue D.tells → AnswersCurrent (current_of (D.seen disk.old)) result }
-    ensures looks { OnlyLooks D.seen D.may_leave D.moment D.left_since disk.old disk.new }
+    ensures looks { OnlyLooks D.Disk disk.old disk.new }
     ensures later { D.faults disk.old ≤ D.faults disk.new }
     ensures cause { HasOpenCause (D.faults disk.old) (D.faults disk.new) result }
 {

@@ -5,7 +5,7 @@ ghost use Rattle.manifest_switch.specs.declared.slot.OpenFault.TheVariants as op
 ghost use Rattle.manifest_switch.specs.declared.slot.SwitchFault.TheVariants as switch_faults;
 
 use disk_model::{Failed, FormKind};
-use manifest::{Manifest, ManifestFault};
+use manifest_codec::{Manifest, ManifestFault};
 use std::alloc::{AllocError, AllocFailed};
 
 /// One of the two files that hold a manifest behind a gate. The gate is the file's first byte, and

@@ -1,9 +1,10 @@
 //! The switch from one slot to the other.
 ghost use Rattle.std.specs.Prelude.{◌≡◌, ◌≢◌, ◌⊎◌, ◌+◌, ◌%◌, ◌<◌, ◌≤◌, ◌∷◌, [], ℕ, Bool, IsTrue, true, false, length, Option, Some, None, Ok, Err, OnOk, IfOk, IsErrOf};
 ghost use Rattle.disk_model.specs.Disk.{Contents};
-ghost use Rattle.disk_model.specs.Crash.{LeavesJust, LeavesOnly};
-ghost use Rattle.manifest.specs.Spelling.{Fits};
-ghost use Rattle.manifest.specs.declared.types.Manifest.{Manifest};
+ghost use Rattle.disk_model.specs.Crash.{LeavesOnly};
+ghost use Rattle.disk_model.specs.View.{IsDurable};
+ghost use Rattle.manifest_codec.specs.Spelling.{Fits};
+ghost use Rattle.manifest_codec.specs.declared.types.Manifest.{Manifest};
 ghost use Rattle.manifest_switch.specs.declared.slot.Slot.{Slot};
 ghost use Rattle.manifest_switch.specs.declared.slot.SwitchFault.TheVariants.{NoMemory};
 ghost use Rattle.manifest_switch.specs.Slots.{file_of, other, is_open, IsBlank, HasOnly, next_generation};
@@ -12,7 +13,7 @@ ghost use Rattle.manifest_switch.specs.Steps.{Succeeds, IsAmid, IsPlaced, IsSwit
 use crate::gates::{close_gate, open_gate, write_body};
 use crate::slot::{Slot, SwitchFault};
 use disk_model::{Disk, Failed};
-use manifest::{Manifest, encode, spelling_is_read};
+use manifest_codec::{Manifest, encode, spelling_is_read};
 use std::alloc::Global;
 
 // Puts a manifest into a slot that isn't open, and makes it the current one.
@@ -27,7 +28,7 @@ fn replace<D: Disk>(
     requires follows { (c : Contents) → D.may_leave disk.old c → Succeeds slot next.now c }
     ensures any_moment { LeavesOnly D.moment D.left_since disk.old disk.new (IsAmid (D.may_leave disk.old) (D.seen disk.old) next.now) }
     ensures reads { IsTrue D.tells → OnOk result (IsPlaced slot next.now (D.seen disk.old) (D.seen disk.new)) }
-    ensures synced { OnOk result (LeavesJust (D.seen disk.new) (D.may_leave disk.new)) }
+    ensures synced { OnOk result (IsDurable D.Disk disk.new) }
     ensures memory { IsErrOf result NoMemory → disk.new ≡ disk.old }
     ensures later { D.faults disk.old ≤ D.faults disk.new }
     ensures cause { HasFaultCause (D.faults disk.old) (D.faults disk.new) result }
@@ -64,12 +65,13 @@ pub fn switch<D: Disk>(
     requires fits { Fits next.now }
     requires first { from ≡ None → next.now.generation ≡ 0 }
     requires blank { from ≡ None → (c : Contents) → D.may_leave disk.old c → IsBlank c }
-    requires only { (s : Slot) → from ≡ Some s → (c : Contents) → D.may_leave disk.old c → (o : Manifest) × HasOnly s o c × (next.now.generation ≡ next_generation o.generation) }
+    requires only { (s : Slot) → from ≡ Some s → (c : Contents) → D.may_leave disk.old c → (o : Manifest)
+        × HasOnly s o c × (next.now.generation ≡ next_generation o.generation) }
     ensures any_moment { LeavesOnly D.moment D.left_since disk.old disk.new (IsAmid (D.may_leave disk.old) (D.seen disk.old) next.now) }
     ensures slot { IfOk result (λ s. s ≡ target_of from) }
     ensures done { IfOk result (λ s. (c : Contents) → D.may_leave disk.new c → HasOnly s next.now c) }
     ensures reads { IsTrue D.tells → IfOk result (λ s. IsSwitched s next.now (D.seen disk.old) (D.seen disk.new)) }
-    ensures synced { IfOk result (λ _. LeavesJust (D.seen disk.new) (D.may_leave disk.new)) }
+    ensures synced { IfOk result (λ _. IsDurable D.Disk disk.new) }
     ensures memory { IsErrOf result NoMemory → disk.new ≡ disk.old }
     ensures later { D.faults disk.old ≤ D.faults disk.new }
     ensures cause { HasFaultCause (D.faults disk.old) (D.faults disk.new) result }

@@ -144,7 +144,9 @@ impl Normal {
     /// The law of the normal form: over each graph whose labels are below 1,000, its closure has an edge exactly where
     /// some path spells a word that the edge's label stands for, by the grammar's rules as they were written.
     pub fn closure_is_reach(&self)
-        ensures { (g : Graph) (u v : AVertex) (l : ALabel) → IsGraph g → All (λ e. IsNamed e.label) g.edges → IsLabelOf (normal_form self.now) l → (Closure (normal_form self.now) g u l v ↔ Reach g self.now u ((normal_form self.now).stands l) v) }
+        ensures { (g : Graph) (u v : AVertex) (l : ALabel) → IsGraph g → All (λ e. IsNamed e.label) g.edges
+            → IsLabelOf (normal_form self.now) l → (Closure (normal_form self.now) g u l v
+            ↔ Reach g self.now u ((normal_form self.now).stands l) v) }
     {
         let _ = &self.grammar;
     }

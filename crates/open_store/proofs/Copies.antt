@@ -4,7 +4,7 @@ use Rattle.graph_words.specs.declared.types.Rule.{Rule}
 use Rattle.disk_model.specs.declared.form_kind.FormKind.{FormKind}
 use Rattle.disk_model.specs.declared.form_kind.FormKind.TheVariants.{Short}
 use Rattle.grammar_norm.specs.GrammarText.{ReadsGrammar}
-use Rattle.manifest.specs.declared.types.Manifest.{Manifest}
+use Rattle.manifest_codec.specs.declared.types.Manifest.{Manifest}
 use Rattle.manifest_switch.specs.declared.slot.Slot.{Slot}
 use Rattle.open_store.specs.Copy.{IsBadCopy, IsCopyRead}
 

@@ -1,10 +1,10 @@
 -- Calls that only look, one after the other.
 use Rattle.std.proofs.Common.{◌≡◌, ◌∙◌, ℕ, inl, inr, arith, refl}
 use Rattle.disk_model.specs.Disk.{Contents}
-use Rattle.manifest_switch.specs.Looks.{OnlyLooks}
+use Rattle.disk_model.specs.Looks.{Looks}
 
 module _ {D : Type 0} (seen : D → Contents) (may_leave : D → Contents → Type 0) (moment : D → ℕ) (left_since : D → ℕ → Contents → Type 0) where
-  pub looks_then : (old mid new : D) → OnlyLooks seen may_leave moment left_since old mid → OnlyLooks seen may_leave moment left_since mid new → OnlyLooks seen may_leave moment left_since old new
+  pub looks_then : (old mid new : D) → Looks seen may_leave moment left_since old mid → Looks seen may_leave moment left_since mid new → Looks seen may_leave moment left_since old new
   looks_then old mid new a b =
       record {
         same_seen = b.same_seen ∙ a.same_seen;
@@ -18,7 +18,7 @@ module _ {D : Type 0} (seen : D → Contents) (may_leave : D → Contents → Ty
         };
       }
 
-  pub looks_same : (disk : D) → OnlyLooks seen may_leave moment left_since disk disk
+  pub looks_same : (disk : D) → Looks seen may_leave moment left_since disk disk
   looks_same disk =
       record {
         same_seen = refl;

@@ -5,8 +5,8 @@ use Rattle.std.specs.Prelude.{Bool, true, false, nat_lt, map}
 use Rattle.closing_machine.specs.State.{place}
 use Rattle.intervals.specs.Bounds.{IsCut, LiesIn, low_of, high_of, vertices_of}
 use Rattle.intervals.proofs.BoundsLemmas.{ends_rise}
-use Rattle.manifest.specs.declared.types.PartEntry.{PartEntry}
-use Rattle.manifest.specs.Spelling.{Cover}
+use Rattle.manifest_codec.specs.declared.types.PartEntry.{PartEntry}
+use Rattle.manifest_codec.specs.Spelling.{Cover}
 
 before : (e v : ℕ) → v < e → nat_lt v e ≡ true
 before e v low = grind (arith, nat_tests)

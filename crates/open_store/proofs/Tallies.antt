@@ -8,8 +8,8 @@ use Rattle.graph_words.specs.declared.types.Born.{Born}
 use Rattle.closing_machine.specs.State.{target}
 use Rattle.dest_map.specs.Table.{counts_of}
 use Rattle.pair_sched.specs.Marks.{newest_of}
-use Rattle.manifest.specs.declared.types.Manifest.{Manifest}
-use Rattle.manifest.specs.declared.types.PartEntry.{PartEntry}
+use Rattle.manifest_codec.specs.declared.types.Manifest.{Manifest}
+use Rattle.manifest_codec.specs.declared.types.PartEntry.{PartEntry}
 use Rattle.store_law.specs.Listed.{ends_of}
 use Rattle.open_store.specs.Reading.{IsTold, count_into}
 use Rattle.open_store.specs.Streaming.{IsTally}

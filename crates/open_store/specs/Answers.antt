@@ -4,7 +4,7 @@ use Rattle.io_edge.specs.declared.kinds.InputFile.{InputFile}
 use Rattle.io_edge.specs.declared.kinds.InputFile.TheVariants.{Grammar}
 use Rattle.disk_model.specs.Disk.{Contents, Rose}
 use Rattle.disk_model.specs.declared.form_kind.FormKind.{FormKind}
-use Rattle.manifest.specs.declared.types.Manifest.{Manifest}
+use Rattle.manifest_codec.specs.declared.types.Manifest.{Manifest}
 use Rattle.open_store.specs.declared.fault.StoreFault.{StoreFault}
 use Rattle.open_store.specs.declared.fault.StoreFault.TheVariants.{BadStore, DiskFault, InputFault, NoMemory, OtherInput, ReadFault}
 

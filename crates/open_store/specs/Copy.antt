@@ -5,8 +5,8 @@ use Rattle.io_edge.specs.FirstFault.{Fault}
 use Rattle.grammar_norm.specs.GrammarText.{ReadsGrammar, grammar_fault}
 use Rattle.disk_model.specs.declared.form_kind.FormKind.{FormKind}
 use Rattle.disk_model.specs.declared.form_kind.FormKind.TheVariants.{BadLabel, BadText, Short}
-use Rattle.manifest.specs.declared.types.Manifest.{Manifest}
-use Rattle.manifest.specs.Rules.{labels_place, newest_version}
+use Rattle.manifest_codec.specs.declared.types.Manifest.{Manifest}
+use Rattle.manifest_codec.specs.Rules.{labels_place, newest_version}
 use Rattle.manifest_switch.specs.declared.slot.Slot.{Slot}
 use Rattle.manifest_switch.specs.Slots.{file_of}
 
@@ -24,4 +24,6 @@ pub data IsBadCopy (s : Slot) (m : Manifest) (file : List ℕ) : ℕ → ℕ →
   -- it has a fault
   bad : (f : Fault) → m.grammar_len ≤ length file → grammar_fault (take m.grammar_len file) ≡ Some f → IsBadCopy s m file 2 0 BadText
   -- the manifest's labels, whose place the version tells, don't begin with its names
-  differ : (rules : List Rule) (names : List (List ℕ)) → m.grammar_len ≤ length file → ReadsGrammar (take m.grammar_len file) rules names → take (length names) m.labels ≢ names → IsBadCopy s m file (file_of s) (labels_place newest_version) BadLabel
+  differ : (rules : List Rule) (names : List (List ℕ)) → m.grammar_len ≤ length file
+      → ReadsGrammar (take m.grammar_len file) rules names → take (length names) m.labels ≢ names
+      → IsBadCopy s m file (file_of s) (labels_place newest_version) BadLabel

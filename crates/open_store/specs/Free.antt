@@ -1,6 +1,6 @@
 -- Files that hold something.
 use Rattle.std.specs.Prelude.{◌≡◌, ◌⊎◌, ℕ, List, Contains}
-use Rattle.manifest.specs.declared.types.PartEntry.{PartEntry}
+use Rattle.manifest_codec.specs.declared.types.PartEntry.{PartEntry}
 
 -- the file is that of some partition, or it is taken
 abbrev pub IsUsed : List PartEntry → List ℕ → ℕ → Type 0

@@ -2,7 +2,7 @@
 use Rattle.std.specs.Prelude.{◌≡◌, ℕ, Ok, Err}
 use Rattle.disk_model.specs.Disk.{Contents}
 use Rattle.disk_model.specs.declared.form_kind.FormKind.{FormKind}
-use Rattle.manifest.specs.declared.types.Manifest.{Manifest}
+use Rattle.manifest_codec.specs.declared.types.Manifest.{Manifest}
 use Rattle.manifest_switch.specs.declared.slot.Slot.{Slot}
 use Rattle.manifest_switch.specs.declared.slot.Found.TheVariants as slots
 use Rattle.manifest_switch.specs.declared.slot.OpenFault.TheVariants as slot_faults
@@ -25,4 +25,5 @@ IsOpenedAlone c (Found s) = IsHeldAlone s c
 -- why the contents hold neither a store nor a blank one: the slots say no manifest, or the copy of the grammar is not the one of which it tells
 pub data IsBadStore (c : Contents) : ℕ → ℕ → FormKind → Type 0 where
   slots_break : {file place : ℕ} {kind : FormKind} → current_of c ≡ Err (slot_faults.BadStore file place kind) → IsBadStore c file place kind
-  copy_breaks : {file place : ℕ} {kind : FormKind} (s : Slot) (m : Manifest) → current_of c ≡ Ok (slots.At s m) → IsBadCopy s m (c 2) file place kind → IsBadStore c file place kind
+  copy_breaks : {file place : ℕ} {kind : FormKind} (s : Slot) (m : Manifest) → current_of c ≡ Ok (slots.At s m)
+      → IsBadCopy s m (c 2) file place kind → IsBadStore c file place kind

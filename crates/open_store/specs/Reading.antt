@@ -7,7 +7,7 @@ use Rattle.disk_model.specs.declared.form_kind.FormKind.TheVariants.{Counts}
 use Rattle.partition_file.specs.Spelling.{Fits, Part, Spells, first_break}
 use Rattle.dest_map.specs.Table.{counts_of}
 use Rattle.pair_sched.specs.Marks.{newest_of}
-use Rattle.manifest.specs.declared.types.Manifest.{Manifest}
+use Rattle.manifest_codec.specs.declared.types.Manifest.{Manifest}
 use Rattle.store_law.specs.Listed.{ends_of, part_of}
 use Rattle.open_store.specs.Store.{OpenStore, expect_in}
 
@@ -30,7 +30,9 @@ pub record IsRead (s : OpenStore) (i : ℕ) (tells : Bool) (file : List ℕ) (ed
 abbrev pub IsRefused : OpenStore → ℕ → List ℕ → ℕ → FormKind → Type 0
 IsRefused s i file place kind =
     (first_break (expect_in s i) file ≡ Some (record { place = place; kind = kind }))
-    ⊎ ((edges : List Born) × Fits (expect_in s i) (part_of s.manifest i edges) × Spells file (part_of s.manifest i edges) × (IsTold s.manifest i edges → ⊥) × (place ≡ 0) × (kind ≡ Counts))
+    ⊎ ((edges : List Born) × Fits (expect_in s i) (part_of s.manifest i edges)
+        × Spells file (part_of s.manifest i edges) × (IsTold s.manifest i edges → ⊥) × (place ≡ 0)
+        × (kind ≡ Counts))
 
 -- how many of the edges end in interval i below a vertex
 abbrev pub count_below_of : List ℕ → ℕ → ℕ → List Born → ℕ

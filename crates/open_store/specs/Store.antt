@@ -5,8 +5,8 @@ use Rattle.normal_law.specs.NormalForm.{normal_form}
 use Rattle.normal_form.specs.Grammar.{IsGrammar}
 use Rattle.disk_model.specs.Disk.{Contents}
 use Rattle.partition_file.specs.declared.types.Expect.{Expect}
-use Rattle.manifest.specs.declared.types.Manifest.{Manifest}
-use Rattle.manifest.specs.Spelling.{Fits}
+use Rattle.manifest_codec.specs.declared.types.Manifest.{Manifest}
+use Rattle.manifest_codec.specs.Spelling.{Fits}
 use Rattle.manifest_switch.specs.declared.slot.Slot.{Slot}
 use Rattle.manifest_switch.specs.declared.slot.Found.TheVariants.{At}
 use Rattle.manifest_switch.specs.Slots.{HasOnly, current_of}

@@ -1,8 +1,9 @@
 //! Another manifest takes the place of the current one.
 ghost use Rattle.std.specs.Prelude.{◌≡◌, ◌≤◌, ℕ, IsTrue, length, take, IfOk, IsErrOf};
 ghost use Rattle.disk_model.specs.Disk.{Contents};
-ghost use Rattle.disk_model.specs.Crash.{LeavesJust, LeavesOnly};
-ghost use Rattle.manifest.specs.Spelling.{Fits};
+ghost use Rattle.disk_model.specs.Crash.{LeavesOnly};
+ghost use Rattle.disk_model.specs.View.{IsDurable};
+ghost use Rattle.manifest_codec.specs.Spelling.{Fits};
 ghost use Rattle.manifest_switch.specs.Slots.{next_generation, other};
 ghost use Rattle.manifest_switch.specs.Steps.{IsAmid, IsSwitched};
 ghost use Rattle.store_law.specs.Listed.{ends_of};
@@ -14,7 +15,7 @@ use crate::fault::StoreFault;
 use crate::store::Store;
 use disk_model::Disk;
 use intervals::Intervals;
-use manifest::Manifest;
+use manifest_codec::Manifest;
 use manifest_switch::switch;
 use std::alloc::{AllocError, Global};
 
@@ -57,7 +58,7 @@ impl Store {
         ensures store { IfOk result (λ s. s ≡ record { slot = other self.slot; manifest = next; rules = self.rules; ends = ends_of next }) }
         ensures held { IfOk result (λ s. (c : Contents) → D.may_leave disk.new c → IsHeldAlone s c) }
         ensures reads { IsTrue D.tells → IfOk result (λ s. IsSwitched s.slot next (D.seen disk.old) (D.seen disk.new)) }
-        ensures synced { IfOk result (λ _. LeavesJust (D.seen disk.new) (D.may_leave disk.new)) }
+        ensures synced { IfOk result (λ _. IsDurable D.Disk disk.new) }
         ensures memory { IsErrOf result NoMemory → disk.new ≡ disk.old }
         ensures later { D.faults disk.old ≤ D.faults disk.new }
         ensures cause { HasDiskCause (D.faults disk.old) (D.faults disk.new) blames_none result }

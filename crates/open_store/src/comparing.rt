@@ -1,10 +1,11 @@
 //! An input is compared with its copy.
 ghost use Rattle.std.specs.Prelude.{◌≡◌, ◌≢◌, ◌<◌, ◌≤◌, ◌+◌, ◌^◌, ℕ, List, IsTrue, true, false, Some, None, Ok, length, take, drop, slice_index_or, OnOk, IfOk, IfErr};
 ghost use Rattle.disk_model.specs.Disk.{HasCause};
+ghost use Rattle.disk_model.specs.View.{OnlyLooks};
 ghost use Rattle.io_edge.specs.Devices.{Gives, Rose};
 ghost use Rattle.open_store.specs.declared.fault.StoreFault.TheVariants.{ReadFault};
 ghost use Rattle.io_edge.specs.declared.kinds.InputFile.TheVariants.{Source};
-ghost use Rattle.manifest_switch.specs.Looks.{OnlyLooks};
+ghost use Rattle.io_edge.specs.View.{NoCountFalls};
 ghost use Rattle.open_store.specs.Answers.{DiffersFirst, HasCompareCause, HasCompareFault, copy_file, copy_len, copy_of};
 
 use crate::fault::StoreFault;
@@ -59,10 +60,13 @@ fn same_piece<D: Disk>(
     requires text { 0 < length text.now }
     ensures within { IfOk result (λ x. (x.0 ≤ left) × (x.0 ≤ length text.now)) }
     ensures further { IfOk result (λ x. x.1 ≡ false → 0 < x.0) }
-    ensures same { IsTrue D.tells → place + left ≤ length (D.seen disk.old file) → IfOk result (λ x. take x.0 text.now ≡ take x.0 (drop place (D.seen disk.old file))) }
-    ensures differ { IsTrue D.tells → place + left ≤ length (D.seen disk.old file) → IfOk result (λ x. x.1 ≡ true → (x.0 < left) × (x.0 < length text.now) × (slice_index_or text.now x.0 0 ≢ slice_index_or (drop place (D.seen disk.old file)) x.0 0)) }
+    ensures same { IsTrue D.tells → place + left ≤ length (D.seen disk.old file)
+        → IfOk result (λ x. take x.0 text.now ≡ take x.0 (drop place (D.seen disk.old file))) }
+    ensures differ { IsTrue D.tells → place + left ≤ length (D.seen disk.old file)
+        → IfOk result (λ x. x.1 ≡ true → (x.0 < left) × (x.0 < length text.now)
+        × (slice_index_or text.now x.0 0 ≢ slice_index_or (drop place (D.seen disk.old file)) x.0 0)) }
     ensures copy { 0 < length copy.new.items }
-    ensures looks { OnlyLooks D.seen D.may_leave D.moment D.left_since disk.old disk.new }
+    ensures looks { OnlyLooks D.Disk disk.old disk.new }
     ensures cause { HasCause (D.faults disk.old) (D.faults disk.new) result }
 {
     let n = read_front(disk, file, place, left, copy)?;
@@ -92,7 +96,7 @@ fn next_piece<I: Inputs>(
     ensures piece { length piece.new.items ≡ 65536 }
     ensures cause { IfErr result (λ e. (e ≡ ReadFault) × Rose (I.faults inputs.old name.now) (I.faults inputs.new name.now)) }
     ensures kept { I.told inputs.new ≡ I.told inputs.old }
-    ensures others { (other : List ℕ) → I.faults inputs.old other ≤ I.faults inputs.new other }
+    ensures others { NoCountFalls I.Inputs inputs.old inputs.new }
 {
     match inputs.read(name, place, piece) {
         Ok(n) => Ok(n),
@@ -112,12 +116,16 @@ fn compare<I: Inputs, D: Disk>(
     requires file { file < 1024 }
     requires len { len ≤ 1099511627776 }
     requires long { IsTrue D.tells → len ≤ length (D.seen disk.old file) }
-    ensures same { result ≡ Ok None → (text : List ℕ) → I.told inputs.old name.now ≡ Some text → IsTrue D.tells → text ≡ take len (D.seen disk.old file) }
-    ensures differ { (place : ℕ) → result ≡ Ok (Some place) → (text : List ℕ) → I.told inputs.old name.now ≡ Some text → IsTrue D.tells → DiffersFirst text (take len (D.seen disk.old file)) place }
-    ensures cause { IfErr result (HasCompareCause (I.faults inputs.old name.now) (I.faults inputs.new name.now) (D.faults disk.old) (D.faults disk.new)) }
-    ensures looks { OnlyLooks D.seen D.may_leave D.moment D.left_since disk.old disk.new }
+    ensures same { result ≡ Ok None → (text : List ℕ) → I.told inputs.old name.now ≡ Some text → IsTrue D.tells
+        → text ≡ take len (D.seen disk.old file) }
+    ensures differ { (place : ℕ) → result ≡ Ok (Some place) → (text : List ℕ)
+        → I.told inputs.old name.now ≡ Some text → IsTrue D.tells
+        → DiffersFirst text (take len (D.seen disk.old file)) place }
+    ensures cause { IfErr result (HasCompareCause (I.faults inputs.old name.now) (I.faults inputs.new name.now)
+        (D.faults disk.old) (D.faults disk.new)) }
+    ensures looks { OnlyLooks D.Disk disk.old disk.new }
     ensures kept { I.told inputs.new ≡ I.told inputs.old }
-    ensures others { (other : List ℕ) → I.faults inputs.old other ≤ I.faults inputs.new other }
+    ensures others { NoCountFalls I.Inputs inputs.old inputs.new }
     ensures later { D.faults disk.old ≤ D.faults disk.new }
 {
     let mut text = vec![in alloc; 0; PIECE_LEN]?;
@@ -155,12 +163,15 @@ pub fn same_input<I: Inputs, D: Disk>(
     file: InputFile,
 ) -> Result<(), StoreFault>
     requires { file ≢ Source }
-    ensures same { OnOk result ((text : List ℕ) → I.told inputs.old name.now ≡ Some text → IsTrue D.tells → text ≡ copy_of store.now.manifest file (D.seen disk.old)) }
-    ensures cause { IfErr result (HasCompareFault (I.faults inputs.old name.now) (I.faults inputs.new name.now) (D.faults disk.old) (D.faults disk.new)
-        (λ f place. (f ≡ file) × ((text : List ℕ) → I.told inputs.old name.now ≡ Some text → IsTrue D.tells → DiffersFirst text (copy_of store.now.manifest file (D.seen disk.old)) place))) }
-    ensures looks { OnlyLooks D.seen D.may_leave D.moment D.left_since disk.old disk.new }
+    ensures same { OnOk result ((text : List ℕ) → I.told inputs.old name.now ≡ Some text → IsTrue D.tells
+        → text ≡ copy_of store.now.manifest file (D.seen disk.old)) }
+    ensures cause { IfErr result (HasCompareFault (I.faults inputs.old name.now) (I.faults inputs.new name.now)
+        (D.faults disk.old) (D.faults disk.new)
+        (λ f place. (f ≡ file) × ((text : List ℕ) → I.told inputs.old name.now ≡ Some text → IsTrue D.tells
+            → DiffersFirst text (copy_of store.now.manifest file (D.seen disk.old)) place))) }
+    ensures looks { OnlyLooks D.Disk disk.old disk.new }
     ensures kept { I.told inputs.new ≡ I.told inputs.old }
-    ensures others { (other : List ℕ) → I.faults inputs.old other ≤ I.faults inputs.new other }
+    ensures others { NoCountFalls I.Inputs inputs.old inputs.new }
     ensures later { D.faults disk.old ≤ D.faults disk.new }
 {
     let (number, size) = copy_place(store, file);

@@ -3,9 +3,9 @@ ghost use Rattle.std.specs.Prelude.{◌≡◌, ◌↔◌, ◌<◌, ◌≤◌, �
 ghost use Rattle.graph_words.specs.declared.types.Born.{Born as ABorn};
 ghost use Rattle.dest_map.specs.Table.{counts_of};
 ghost use Rattle.disk_model.specs.declared.form_kind.FormKind.TheVariants.{Counts};
+ghost use Rattle.disk_model.specs.View.{OnlyLooks};
 ghost use Rattle.open_store.specs.declared.fault.StoreFault.TheVariants.{DiskFault};
 ghost use Rattle.pair_sched.specs.Marks.{newest_of};
-ghost use Rattle.manifest_switch.specs.Looks.{OnlyLooks};
 ghost use Rattle.store_law.specs.Listed.{part_file, part_of};
 ghost use Rattle.open_store.specs.Answers.{HasDiskCause, blames_none};
 ghost use Rattle.open_store.specs.Reading.{IsRead, IsRefused, IsTold, count_below_of};
@@ -31,8 +31,9 @@ impl Store {
     ) -> Result<PartStream, StoreFault>
         requires { i < length self.now.manifest.parts }
         ensures bounds { (expect_in self.now i).lo < (expect_in self.now i).hi }
-        ensures begun { IfOk result (λ s. (s.file ≡ part_file self.now.manifest i) × IsStream s × IsAt (expect_in self.now i) D.tells (D.seen disk.old (part_file self.now.manifest i)) [] [] s) }
-        ensures looks { OnlyLooks D.seen D.may_leave D.moment D.left_since disk.old disk.new }
+        ensures begun { IfOk result (λ s. (s.file ≡ part_file self.now.manifest i) × IsStream s
+            × IsAt (expect_in self.now i) D.tells (D.seen disk.old (part_file self.now.manifest i)) [] [] s) }
+        ensures looks { OnlyLooks D.Disk disk.old disk.new }
         ensures later { D.faults disk.old ≤ D.faults disk.new }
         ensures cause { HasDiskCause (D.faults disk.old) (D.faults disk.new) blames_none result }
     {
@@ -43,8 +44,11 @@ impl Store {
     fn tells(&self, i: usize, tally: &Tally) -> bool
         requires i { i < length self.now.manifest.parts }
         requires row { length tally.now.row.items ≡ length self.now.manifest.parts }
-        ensures told { result ≡ true → (edges : List ABorn) → IsTally self.now.ends edges tally.now.row.items tally.now.newest → IsTold self.now.manifest i edges }
-        ensures other { result ≡ false → (edges : List ABorn) → IsTally self.now.ends edges tally.now.row.items tally.now.newest → IsTold self.now.manifest i edges → ⊥ }
+        ensures told { result ≡ true → (edges : List ABorn)
+            → IsTally self.now.ends edges tally.now.row.items tally.now.newest → IsTold self.now.manifest i edges }
+        ensures other { result ≡ false → (edges : List ABorn)
+            → IsTally self.now.ends edges tally.now.row.items tally.now.newest → IsTold self.now.manifest i edges
+            → ⊥ }
     {
         for (j, count) in tally.row.iter().enumerate() {
             if self.manifest.map.count(i, j) != *count {
@@ -58,8 +62,12 @@ impl Store {
     fn check(&self, i: usize, tally: &Tally) -> Result<(), StoreFault>
         requires i { i < length self.now.manifest.parts }
         requires row { length tally.now.row.items ≡ length self.now.manifest.parts }
-        ensures told { (edges : List ABorn) → IsTally self.now.ends edges tally.now.row.items tally.now.newest → OnOk result (IsTold self.now.manifest i edges) }
-        ensures cause { HasDiskCause 0 0 (λ file place kind. (file ≡ part_file self.now.manifest i) × (place ≡ 0) × (kind ≡ Counts) × ((edges : List ABorn) → IsTally self.now.ends edges tally.now.row.items tally.now.newest → IsTold self.now.manifest i edges → ⊥)) result }
+        ensures told { (edges : List ABorn) → IsTally self.now.ends edges tally.now.row.items tally.now.newest
+            → OnOk result (IsTold self.now.manifest i edges) }
+        ensures cause { HasDiskCause 0 0 (λ file place kind. (file ≡ part_file self.now.manifest i) × (place ≡ 0)
+            × (kind ≡ Counts) × ((edges : List ABorn)
+            → IsTally self.now.ends edges tally.now.row.items tally.now.newest → IsTold self.now.manifest i edges
+            → ⊥)) result }
         ensures no_disk { result ≡ Err DiskFault → ⊥ }
     {
         if self.tells(i, tally) {
@@ -76,9 +84,11 @@ impl Store {
     fn edges<D: Disk>(&self, alloc: Global, disk: &mut D, i: usize) -> Result<Vec<Born>, StoreFault>
         requires { i < length self.now.manifest.parts }
         ensures read { IfOk result (λ v. IsRead self.now i D.tells (D.seen disk.old (part_file self.now.manifest i)) v.items) }
-        ensures looks { OnlyLooks D.seen D.may_leave D.moment D.left_since disk.old disk.new }
+        ensures looks { OnlyLooks D.Disk disk.old disk.new }
         ensures later { D.faults disk.old ≤ D.faults disk.new }
-        ensures cause { HasDiskCause (D.faults disk.old) (D.faults disk.new) (λ file place kind. (file ≡ part_file self.now.manifest i) × (IsTrue D.tells → IsRefused self.now i (D.seen disk.old file) place kind)) result }
+        ensures cause { HasDiskCause (D.faults disk.old) (D.faults disk.new)
+            (λ file place kind. (file ≡ part_file self.now.manifest i)
+            × (IsTrue D.tells → IsRefused self.now i (D.seen disk.old file) place kind)) result }
     {
         let mut stream = self.stream(alloc, disk, i)?;
         let mut edges = Vec::with_capacity(alloc, stream.most_edges(&self.expect(i)))?;
@@ -104,9 +114,11 @@ impl Store {
         requires { i < length self.now.manifest.parts }
         ensures part { IfOk result (λ p. p ≡ part_of self.now.manifest i p.edges) }
         ensures read { IfOk result (λ p. IsRead self.now i D.tells (D.seen disk.old (part_file self.now.manifest i)) p.edges) }
-        ensures looks { OnlyLooks D.seen D.may_leave D.moment D.left_since disk.old disk.new }
+        ensures looks { OnlyLooks D.Disk disk.old disk.new }
         ensures later { D.faults disk.old ≤ D.faults disk.new }
-        ensures cause { HasDiskCause (D.faults disk.old) (D.faults disk.new) (λ file place kind. (file ≡ part_file self.now.manifest i) × (IsTrue D.tells → IsRefused self.now i (D.seen disk.old file) place kind)) result }
+        ensures cause { HasDiskCause (D.faults disk.old) (D.faults disk.new)
+            (λ file place kind. (file ≡ part_file self.now.manifest i)
+            × (IsTrue D.tells → IsRefused self.now i (D.seen disk.old file) place kind)) result }
     {
         let edges = self.edges(alloc, disk, i)?;
         let (lo, hi) = self.intervals.bounds(i);
@@ -125,10 +137,14 @@ impl Store {
         at: u32,
     ) -> Result<u64, StoreFault>
         requires { j < length self.now.manifest.parts }
-        ensures count { IfOk result (λ n. (edges : List ABorn) × IsRead self.now j D.tells (D.seen disk.old (part_file self.now.manifest j)) edges × (n ≡ count_below_of self.now.ends i at edges)) }
-        ensures looks { OnlyLooks D.seen D.may_leave D.moment D.left_since disk.old disk.new }
+        ensures count { IfOk result (λ n. (edges : List ABorn)
+            × IsRead self.now j D.tells (D.seen disk.old (part_file self.now.manifest j)) edges
+            × (n ≡ count_below_of self.now.ends i at edges)) }
+        ensures looks { OnlyLooks D.Disk disk.old disk.new }
         ensures later { D.faults disk.old ≤ D.faults disk.new }
-        ensures cause { HasDiskCause (D.faults disk.old) (D.faults disk.new) (λ file place kind. (file ≡ part_file self.now.manifest j) × (IsTrue D.tells → IsRefused self.now j (D.seen disk.old file) place kind)) result }
+        ensures cause { HasDiskCause (D.faults disk.old) (D.faults disk.new)
+            (λ file place kind. (file ≡ part_file self.now.manifest j)
+            × (IsTrue D.tells → IsRefused self.now j (D.seen disk.old file) place kind)) result }
     {
         let mut stream = self.stream(alloc, disk, j)?;
         let mut edges = Vec::new(alloc);

@@ -1,9 +1,8 @@
 //! A store is opened: its manifest is found, and its grammar read.
 ghost use Rattle.std.specs.Prelude.{◌≡◌, ◌≤◌, ℕ, IsTrue, Ok, IfOk};
 ghost use Rattle.disk_model.specs.Disk.{Contents};
-ghost use Rattle.disk_model.specs.Crash.{LeavesJust, LeavesOnly, From};
-ghost use Rattle.manifest.specs.Spelling.{Fits};
-ghost use Rattle.manifest_switch.specs.Looks.{OnlyLooks};
+ghost use Rattle.disk_model.specs.View.{IsDurable, LeavesBy, OnlyLooks};
+ghost use Rattle.manifest_codec.specs.Spelling.{Fits};
 ghost use Rattle.manifest_switch.specs.Steps.{Stays};
 ghost use Rattle.store_law.specs.Listed.{ends_of};
 ghost use Rattle.open_store.specs.declared.opening.OpenMode.TheVariants.{Change, Look};
@@ -17,7 +16,7 @@ use crate::grammar_copy::grammar_of;
 use crate::store::Store;
 use disk_model::Disk;
 use grammar_norm::normalise;
-use manifest::Manifest;
+use manifest_codec::Manifest;
 use manifest_switch::{Found, Slot, close_other, current};
 use std::alloc::Global;
 
@@ -49,9 +48,10 @@ fn store_of<D: Disk>(
     requires { Fits manifest }
     ensures store { IfOk result (λ s. (s.slot ≡ slot) × (s.manifest ≡ manifest) × (s.ends ≡ ends_of manifest)) }
     ensures copy { IsTrue D.tells → IfOk result (λ s. IsCopyRead manifest (D.seen disk.old 2) s.rules) }
-    ensures looks { OnlyLooks D.seen D.may_leave D.moment D.left_since disk.old disk.new }
+    ensures looks { OnlyLooks D.Disk disk.old disk.new }
     ensures later { D.faults disk.old ≤ D.faults disk.new }
-    ensures cause { HasDiskCause (D.faults disk.old) (D.faults disk.new) (λ file place kind. IsTrue D.tells → IsBadCopy slot manifest (D.seen disk.old 2) file place kind) result }
+    ensures cause { HasDiskCause (D.faults disk.old) (D.faults disk.new)
+        (λ file place kind. IsTrue D.tells → IsBadCopy slot manifest (D.seen disk.old 2) file place kind) result }
 {
     let grammar = grammar_of(alloc, disk, slot, &manifest)?;
     let normal = normalise(alloc, &grammar)?;
@@ -67,9 +67,10 @@ fn store_of<D: Disk>(
 // What the store holds, which is only read.
 fn look<D: Disk>(alloc: Global, disk: &mut D) -> Result<Opened, StoreFault>
     ensures opened { IsTrue D.tells → IfOk result (IsOpened (D.seen disk.old)) }
-    ensures looks { OnlyLooks D.seen D.may_leave D.moment D.left_since disk.old disk.new }
+    ensures looks { OnlyLooks D.Disk disk.old disk.new }
     ensures later { D.faults disk.old ≤ D.faults disk.new }
-    ensures cause { HasDiskCause (D.faults disk.old) (D.faults disk.new) (λ file place kind. IsTrue D.tells → IsBadStore (D.seen disk.old) file place kind) result }
+    ensures cause { HasDiskCause (D.faults disk.old) (D.faults disk.new)
+        (λ file place kind. IsTrue D.tells → IsBadStore (D.seen disk.old) file place kind) result }
 {
     match current(alloc, disk)? {
         Found::Blank => Ok(Opened::Blank),
@@ -79,14 +80,15 @@ fn look<D: Disk>(alloc: Global, disk: &mut D) -> Result<Opened, StoreFault>
 
 // What the store holds, which may be changed. The disk was synced.
 fn grasp<D: Disk>(alloc: Global, disk: &mut D) -> Result<Opened, StoreFault>
-    requires { LeavesJust (D.seen disk.old) (D.may_leave disk.old) }
+    requires { IsDurable D.Disk disk.old }
     ensures opened { IsTrue D.tells → IfOk result (IsOpened (D.seen disk.new)) }
     ensures alone { IfOk result (λ o. (c : Contents) → D.may_leave disk.new c → IsOpenedAlone c o) }
     ensures stays { IsTrue D.tells → IfOk result (λ _. Stays (D.seen disk.old) (D.seen disk.new)) }
-    ensures synced { IfOk result (λ _. LeavesJust (D.seen disk.new) (D.may_leave disk.new)) }
-    ensures any_moment { LeavesOnly D.moment D.left_since disk.old disk.new (From (D.may_leave disk.old) Stays) }
+    ensures synced { IfOk result (λ _. IsDurable D.Disk disk.new) }
+    ensures any_moment { LeavesBy D.Disk disk.old disk.new Stays }
     ensures later { D.faults disk.old ≤ D.faults disk.new }
-    ensures cause { HasDiskCause (D.faults disk.old) (D.faults disk.new) (λ file place kind. IsTrue D.tells → IsBadStore (D.seen disk.old) file place kind) result }
+    ensures cause { HasDiskCause (D.faults disk.old) (D.faults disk.new)
+        (λ file place kind. IsTrue D.tells → IsBadStore (D.seen disk.old) file place kind) result }
 {
     match current(alloc, disk)? {
         Found::Blank => Ok(Opened::Blank),
@@ -112,11 +114,12 @@ pub fn open<D: Disk>(alloc: Global, disk: &mut D, mode: OpenMode) -> Result<Open
     ensures opened { IsTrue D.tells → IfOk result (IsOpened (D.seen disk.new)) }
     ensures alone { mode ≡ Change → IfOk result (λ o. (c : Contents) → D.may_leave disk.new c → IsOpenedAlone c o) }
     ensures stays { IsTrue D.tells → IfOk result (λ _. Stays (D.seen disk.old) (D.seen disk.new)) }
-    ensures synced { mode ≡ Change → IfOk result (λ _. LeavesJust (D.seen disk.new) (D.may_leave disk.new)) }
-    ensures any_moment { LeavesOnly D.moment D.left_since disk.old disk.new (From (D.may_leave disk.old) Stays) }
-    ensures looks { mode ≡ Look → OnlyLooks D.seen D.may_leave D.moment D.left_since disk.old disk.new }
+    ensures synced { mode ≡ Change → IfOk result (λ _. IsDurable D.Disk disk.new) }
+    ensures any_moment { LeavesBy D.Disk disk.old disk.new Stays }
+    ensures looks { mode ≡ Look → OnlyLooks D.Disk disk.old disk.new }
     ensures later { D.faults disk.old ≤ D.faults disk.new }
-    ensures cause { HasDiskCause (D.faults disk.old) (D.faults disk.new) (λ file place kind. IsTrue D.tells → IsBadStore (D.seen disk.old) file place kind) result }
+    ensures cause { HasDiskCause (D.faults disk.old) (D.faults disk.new)
+        (λ file place kind. IsTrue D.tells → IsBadStore (D.seen disk.old) file place kind) result }
 {
     match mode {
         OpenMode::Look => look(alloc, disk),

@@ -1,12 +1,12 @@
 //! Partitions are put into files that no manifest names.
 ghost use Rattle.std.specs.Prelude.{◌≡◌, ◌≢◌, ◌<◌, ◌≤◌, ℕ, IsTrue, true, false, Contains, All, length, OnOk, IsErrOf};
 ghost use Rattle.disk_model.specs.Disk.{Sets};
-ghost use Rattle.disk_model.specs.Crash.{LeavesOnly, From};
+ghost use Rattle.disk_model.specs.View.{LeavesBy};
 ghost use Rattle.disk_files.specs.Files.{OnlyFile};
 ghost use Rattle.partition_file.specs.Spelling.{newest_format, spelling};
 ghost use Rattle.open_store.specs.declared.fault.StoreFault.TheVariants.{NoMemory};
 ghost use Rattle.open_store.specs.Answers.{HasDiskCause, blames_none};
-ghost use Rattle.manifest.specs.declared.types.PartEntry.{PartEntry as APartEntry};
+ghost use Rattle.manifest_codec.specs.declared.types.PartEntry.{PartEntry as APartEntry};
 ghost use Rattle.store_law.specs.Steps.{IsFree};
 ghost use Rattle.open_store.specs.Free.{IsUsed};
 
@@ -14,7 +14,7 @@ use crate::fault::StoreFault;
 use crate::store::Store;
 use disk_files::rewrite;
 use disk_model::Disk;
-use manifest::PartEntry;
+use manifest_codec::PartEntry;
 use partition_file::{Partition, encode};
 use std::alloc::Global;
 
@@ -74,7 +74,7 @@ impl Store {
     ) -> Result<(), StoreFault>
         requires free { IsFree self.now.manifest file }
         requires within { file < 1024 }
-        ensures any_moment { LeavesOnly D.moment D.left_since disk.old disk.new (From (D.may_leave disk.old) (OnlyFile file)) }
+        ensures any_moment { LeavesBy D.Disk disk.old disk.new (OnlyFile file) }
         ensures written { IsTrue D.tells → OnOk result (Sets file (spelling newest_format part.now) (D.seen disk.old) (D.seen disk.new)) }
         ensures memory { IsErrOf result NoMemory → disk.new ≡ disk.old }
         ensures later { D.faults disk.old ≤ D.faults disk.new }

@@ -5,7 +5,7 @@ ghost use Rattle.store_law.specs.Listed.{part_file};
 
 use grammar_norm::Normal;
 use intervals::Intervals;
-use manifest::Manifest;
+use manifest_codec::Manifest;
 use manifest_switch::Slot;
 use partition_file::Expect;
 use std::marker::Model;

@@ -2,12 +2,12 @@
 ghost use Rattle.std.specs.Prelude.{◌≡◌, ◌+◌, ◌^◌, ◌<◌, ◌≤◌, ◌++◌, [], ℕ, List, IsTrue, true, false, length, take, drop, Some, Ok, Err, IfOk};
 ghost use Rattle.graph_words.specs.declared.types.Born.{Born as ABorn};
 ghost use Rattle.disk_model.specs.Disk.{HasCause};
+ghost use Rattle.disk_model.specs.View.{OnlyLooks};
 ghost use Rattle.partition_file.specs.declared.types.Expect.{Expect as AnExpect};
 ghost use Rattle.partition_file.specs.Reader.{rest_of};
 ghost use Rattle.partition_file.specs.Reading.{complete};
 ghost use Rattle.partition_file.specs.Spelling.{IsBytes, first_break};
 ghost use Rattle.open_store.specs.declared.fault.StoreFault.TheVariants.{BadStore, DiskFault};
-ghost use Rattle.manifest_switch.specs.Looks.{OnlyLooks};
 ghost use Rattle.open_store.specs.Answers.{HasDiskCause, blames_none};
 ghost use Rattle.open_store.specs.Streaming.{HasEnded, IsAt, IsStream};
 
@@ -41,7 +41,7 @@ impl PartStream {
         requires file { file < 1024 }
         requires bounds { expect.lo < expect.hi }
         ensures begun { IfOk result (λ s. (s.file ≡ file) × IsStream s × IsAt expect D.tells (D.seen disk.old file) [] [] s) }
-        ensures looks { OnlyLooks D.seen D.may_leave D.moment D.left_since disk.old disk.new }
+        ensures looks { OnlyLooks D.Disk disk.old disk.new }
         ensures later { D.faults disk.old ≤ D.faults disk.new }
         ensures cause { HasDiskCause (D.faults disk.old) (D.faults disk.new) blames_none result }
     {
@@ -69,16 +69,23 @@ impl PartStream {
     ) -> Result<bool, StoreFault>
         requires { IsStream self.old }
         ensures stream { result ≡ Ok true → IsStream self.new }
-        ensures more { result ≡ Ok true → (e : AnExpect) (file bytes : List ℕ) (front : List ABorn) → (IsTrue D.tells → D.seen disk.old self.old.file ≡ file) → IsAt e D.tells file bytes (front ++ edges.old.items) self.old
+        ensures more { result ≡ Ok true → (e : AnExpect) (file bytes : List ℕ) (front : List ABorn)
+            → (IsTrue D.tells → D.seen disk.old self.old.file ≡ file)
+            → IsAt e D.tells file bytes (front ++ edges.old.items) self.old
             → (next : List ℕ) × IsAt e D.tells file next (front ++ edges.new.items) self.new }
-        ensures end { result ≡ Ok false → (e : AnExpect) (file bytes : List ℕ) (front : List ABorn) → (IsTrue D.tells → D.seen disk.old self.old.file ≡ file) → IsAt e D.tells file bytes (front ++ edges.old.items) self.old
+        ensures end { result ≡ Ok false → (e : AnExpect) (file bytes : List ℕ) (front : List ABorn)
+            → (IsTrue D.tells → D.seen disk.old self.old.file ≡ file)
+            → IsAt e D.tells file bytes (front ++ edges.old.items) self.old
             → HasEnded e D.tells file bytes (front ++ edges.old.items) × (edges.new ≡ edges.old) }
         ensures file { self.new.file ≡ self.old.file }
         ensures further { result ≡ Ok true → (self.old.place < self.new.place) × (self.new.len ≡ self.old.len) }
-        ensures looks { OnlyLooks D.seen D.may_leave D.moment D.left_since disk.old disk.new }
+        ensures looks { OnlyLooks D.Disk disk.old disk.new }
         ensures later { D.faults disk.old ≤ D.faults disk.new }
         ensures cause { HasDiskCause (D.faults disk.old) (D.faults disk.new) (λ file place kind. (file ≡ self.old.file)
-            × (IsTrue D.tells → (e : AnExpect) (file bytes : List ℕ) (front : List ABorn) → D.seen disk.old self.old.file ≡ file → IsAt e D.tells file bytes (front ++ edges.old.items) self.old → first_break e file ≡ Some (record { place = place; kind = kind }))) result }
+            × (IsTrue D.tells → (e : AnExpect) (file bytes : List ℕ) (front : List ABorn)
+                → D.seen disk.old self.old.file ≡ file → IsAt e D.tells file bytes
+                (front ++ edges.old.items) self.old → first_break e file
+                ≡ Some (record { place = place; kind = kind }))) result }
     {
         if self.place == self.len {
             return self.end();
@@ -99,7 +106,8 @@ impl PartStream {
     fn end(&mut self) -> Result<bool, StoreFault>
         ensures end { result ≡ Ok false → rest_of self.old.reader [] ≡ complete }
         ensures no_more { result ≡ Ok true → ⊥ }
-        ensures bad { HasDiskCause 0 0 (λ file place kind. (file ≡ self.old.file) × ((rest_of self.old.reader []).fault ≡ Some (record { place = place; kind = kind }))) result }
+        ensures bad { HasDiskCause 0 0 (λ file place kind. (file ≡ self.old.file)
+            × ((rest_of self.old.reader []).fault ≡ Some (record { place = place; kind = kind }))) result }
         ensures no_disk { result ≡ Err DiskFault → ⊥ }
         ensures same { (self.new.file ≡ self.old.file) × (self.new.place ≡ self.old.place) }
     {
@@ -128,7 +136,7 @@ pub(crate) fn read_front<D: Disk>(
     ensures bytes { IsTrue D.tells → IfOk result (λ n. take n piece.new.items ≡ take n (drop place (D.seen disk.old file))) }
     ensures are_bytes { IfOk result (λ n. IsBytes (take n piece.new.items)) }
     ensures piece { 0 < length piece.new.items }
-    ensures looks { OnlyLooks D.seen D.may_leave D.moment D.left_since disk.old disk.new }
+    ensures looks { OnlyLooks D.Disk disk.old disk.new }
     ensures cause { HasCause (D.faults disk.old) (D.faults disk.new) result }
 {
     if left < piece.len() as u64 {

@@ -86,7 +86,8 @@ impl Tally {
     fn add(&mut self, intervals: &Intervals, vertices: u32, born: &Born)
         requires vertices { vertices ≡ vertices_of intervals.now }
         requires room { (j : ℕ) → slice_index_or self.old.row.items j 0 + 1 < 2 ^ 64 }
-        ensures tally { (before : List ABorn) → IsTally intervals.now before self.old.row.items self.old.newest → IsTally intervals.now (before ++ born.now ∷ []) self.new.row.items self.new.newest }
+        ensures tally { (before : List ABorn) → IsTally intervals.now before self.old.row.items self.old.newest
+            → IsTally intervals.now (before ++ born.now ∷ []) self.new.row.items self.new.newest }
         ensures room { (j : ℕ) → slice_index_or self.new.row.items j 0 ≤ slice_index_or self.old.row.items j 0 + 1 }
     {
         let j = interval_of(intervals, vertices, born.edge.dst.0);
@@ -97,7 +98,8 @@ impl Tally {
     /// Counts each of the edges.
     pub(crate) fn add_all(&mut self, intervals: &Intervals, edges: &[Born])
         requires room { (j : ℕ) → slice_index_or self.old.row.items j 0 + length edges.now < 2 ^ 64 }
-        ensures tally { (before : List ABorn) → IsTally intervals.now before self.old.row.items self.old.newest → IsTally intervals.now (before ++ edges.now) self.new.row.items self.new.newest }
+        ensures tally { (before : List ABorn) → IsTally intervals.now before self.old.row.items self.old.newest
+            → IsTally intervals.now (before ++ edges.now) self.new.row.items self.new.newest }
     {
         let vertices = covered(intervals);
         for born in edges {

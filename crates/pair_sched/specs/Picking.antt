@@ -25,7 +25,8 @@ pub record IsBestPair (counts joined : ℕ → ℕ → ℕ) (newest_in : ℕ →
   pub second_below : p.1 < size
   pub dirty : IsDirtyBy counts joined newest_in p.0 p.1
   pub comes : Comes p.0 p.1 i j
-  pub first : (a b : ℕ) → a < size → b < size → Comes a b i j → IsDirtyBy counts joined newest_in a b → ((p.0 ≡ a) × (p.1 ≡ b)) ⊎ GoesBefore counts p.0 p.1 a b
+  pub first : (a b : ℕ) → a < size → b < size → Comes a b i j → IsDirtyBy counts joined newest_in a b
+      → ((p.0 ≡ a) × (p.1 ≡ b)) ⊎ GoesBefore counts p.0 p.1 a b
 
 -- or none of them has work left
 abbrev pub IsBest : (ℕ → ℕ → ℕ) → (ℕ → ℕ → ℕ) → (ℕ → ℕ) → ℕ → ℕ → ℕ → Option (ℕ × ℕ) → Type 0

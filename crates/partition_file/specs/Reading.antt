@@ -99,7 +99,8 @@ label_at e v before next place bytes = number 2 place bytes (label_then e v befo
 -- the edges of a row that are left, and then what stands behind the row
 unfoldable pub row_at : Expect → ℕ → ℕ → Option Edge → Behind → Behind
 row_at e v zero before next place bytes = next place bytes
-row_at e v (suc n) before next place bytes = label_at e v before (λ b after rest. then_found b (row_at e v n (Some b.edge) next after rest)) place bytes
+row_at e v (suc n) before next place bytes = label_at e v before
+    (λ b after rest. then_found b (row_at e v n (Some b.edge) next after rest)) place bytes
 
 -- behind the number of edges of a row, which has no rule but that so many follow
 unfoldable pub count_then : Expect → ℕ → Behind → ℕ → Behind

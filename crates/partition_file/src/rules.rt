@@ -45,7 +45,9 @@ pub(crate) fn destination_fault(
     dst: u32,
     place: u64,
 ) -> Option<PartFault>
-    ensures { result ≡ (if nat_lt dst expect.now.vertices then fault_of (Rules.is_above before label dst) place FormKind.BadOrder else fault_of false place FormKind.BadVertex) }
+    ensures { result ≡ (if nat_lt dst expect.now.vertices
+        then fault_of (Rules.is_above before label dst) place FormKind.BadOrder
+        else fault_of false place FormKind.BadVertex) }
 {
     if dst >= expect.vertices {
         return Some(PartFault {

@@ -33,7 +33,8 @@ pub fn closure(
     requires graph { IsGraph (graph_with vertices graph.now) }
     requires labels { All (λ e. IsNamed e.label) graph.now }
     ensures reached { IfOk result (All (λ e. Reach (graph_with vertices graph.now) grammar.now e.src (e.label ∷ []) e.dst)) }
-    ensures all { IfOk result (λ edges. (u v : AVertex) (a : ALabel) → Reach (graph_with vertices graph.now) grammar.now u (a ∷ []) v → Contains edges (edge u a v)) }
+    ensures all { IfOk result (λ edges. (u v : AVertex) (a : ALabel)
+        → Reach (graph_with vertices graph.now) grammar.now u (a ∷ []) v → Contains edges (edge u a v)) }
     ensures ascending { IfOk result IsAscending }
 {
     let normal = normalise(alloc, grammar)?;

@@ -15,8 +15,8 @@ use Rattle.closing_machine.specs.State.{place}
 use Rattle.closing_machine.specs.Parts.{all_edges}
 use Rattle.disk_model.specs.Disk.{Contents}
 use Rattle.intervals.specs.Bounds.{LiesIn, low_of, vertices_of}
-use Rattle.manifest.specs.declared.types.PartEntry.{PartEntry}
-use Rattle.manifest.specs.Spelling.{Cover}
+use Rattle.manifest_codec.specs.declared.types.PartEntry.{PartEntry}
+use Rattle.manifest_codec.specs.Spelling.{Cover}
 use Rattle.partition_file.specs.Spelling.{IsExpect, Part}
 use Rattle.partition_file.proofs.FileLaws.{one_part}
 use Rattle.store_law.specs.Listed.{ends_of, part_of}

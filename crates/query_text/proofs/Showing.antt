@@ -11,7 +11,7 @@ use Rattle.graph_words.specs.declared.types.Born.{Born}
 use Rattle.closing_machine.specs.Parts.{all_edges}
 use Rattle.disk_model.specs.Disk.{Contents}
 use Rattle.disk_model.specs.declared.form_kind.FormKind.{FormKind}
-use Rattle.manifest.specs.declared.types.Manifest.{Manifest}
+use Rattle.manifest_codec.specs.declared.types.Manifest.{Manifest}
 use Rattle.store_law.specs.Listed.{part_file}
 use Rattle.open_store.specs.Store.{IsOpenStore, OpenStore}
 use Rattle.open_store.specs.Reading.{IsRead, IsRefused}

@@ -8,10 +8,10 @@ use Rattle.io_edge.proofs.DeviceLemmas.{AppendsPrefix-more, takes_more}
 use Rattle.std.proofs.Math.Nat.{mul-le-mul}
 use Rattle.std.proofs.lemmas.List.{take_more, get_or-map, length-take}
 use Rattle.dest_map.specs.Table.{counts_of}
-use Rattle.manifest.specs.declared.types.PartEntry.{PartEntry}
-use Rattle.manifest.specs.declared.types.Manifest.{Manifest}
-use Rattle.manifest.specs.Rules.{widths}
-use Rattle.manifest.specs.Spelling.{Cover, Fits, width}
+use Rattle.manifest_codec.specs.declared.types.PartEntry.{PartEntry}
+use Rattle.manifest_codec.specs.declared.types.Manifest.{Manifest}
+use Rattle.manifest_codec.specs.Rules.{widths}
+use Rattle.manifest_codec.specs.Spelling.{Cover, Fits, width}
 use Rattle.store_law.specs.Listed.{ends_of}
 use Rattle.store_law.proofs.Intervals.{cut_from_cover}
 use Rattle.query_text.specs.Text.{edges_in, part_line, part_lines, sum_below}

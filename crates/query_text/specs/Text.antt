@@ -7,8 +7,8 @@ use Rattle.edge_text.specs.Print.{edge_bytes}
 use Rattle.dest_map.specs.Table.{counts_of}
 use Rattle.pair_sched.specs.Marks.{joined_of, newest_of}
 use Rattle.pair_sched.specs.Picking.{IsClean, IsLeastDirty}
-use Rattle.manifest.specs.declared.types.PartEntry.{PartEntry}
-use Rattle.manifest.specs.declared.types.Manifest.{Manifest}
+use Rattle.manifest_codec.specs.declared.types.PartEntry.{PartEntry}
+use Rattle.manifest_codec.specs.declared.types.Manifest.{Manifest}
 
 -- ---- the head: vertices and partitions
 
@@ -48,7 +48,8 @@ unfinished_line i j = codes "unfinished " ++ (decimal i ++ (32 ∷ (decimal j ++
 -- the line of the manifest's state: no pair of partitions has work left, or which is the least that has
 pub data IsStateLine (m : Manifest) : List ℕ → Type 0 where
   finished : IsClean (counts_of m.map) (joined_of m.marks) (newest_of m.marks) (length m.parts) → IsStateLine m finished_line
-  unfinished : (i j : ℕ) → IsLeastDirty (counts_of m.map) (joined_of m.marks) (newest_of m.marks) (length m.parts) i j → IsStateLine m (unfinished_line i j)
+  unfinished : (i j : ℕ) → IsLeastDirty (counts_of m.map) (joined_of m.marks) (newest_of m.marks)
+      (length m.parts) i j → IsStateLine m (unfinished_line i j)
 
 -- ---- how many edges each label has
 

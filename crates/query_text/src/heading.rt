@@ -2,14 +2,14 @@
 ghost use Rattle.std.specs.Prelude.{◌≡◌, ◌<◌, ◌≤◌, ◌++◌, ◌∷◌, [], ℕ, List, length, MatchOption};
 ghost use Rattle.io_edge.specs.Devices.{HasCause, Takes};
 ghost use Rattle.dest_map.specs.Table.{counts_of};
-ghost use Rattle.manifest.specs.Spelling.{Fits};
+ghost use Rattle.manifest_codec.specs.Spelling.{Fits};
 ghost use Rattle.query_text.specs.Text.{IsStateLine, edges_in, head_text, part_lines};
 ghost use Rattle.query_text.specs.Answered.{HasWriteCause};
 
 use crate::fault::AnswerFault;
 use crate::lines::{Line, finished_line, part_line, unfinished_line, vertices_line};
 use io_edge::{Failed, Sink};
-use manifest::Manifest;
+use manifest_codec::Manifest;
 use open_store::Store;
 use pair_sched::least_dirty;
 
@@ -92,7 +92,8 @@ pub fn head<O: Sink>(store: &Store, sink: &mut O) -> Result<(), AnswerFault>
 /// The only fault is `WriteFault`, which comes only where the sink's count rose; then a prefix of the
 /// lines was printed.
 pub fn parts<O: Sink>(store: &Store, sink: &mut O) -> Result<(), AnswerFault>
-    ensures taken { (state : List ℕ) × IsStateLine store.now.manifest state × Takes (O.told sink.old) (O.told sink.new) result (head_text store.now.manifest ++ state) }
+    ensures taken { (state : List ℕ) × IsStateLine store.now.manifest state
+        × Takes (O.told sink.old) (O.told sink.new) result (head_text store.now.manifest ++ state) }
     ensures later { O.faults sink.old ≤ O.faults sink.new }
     ensures cause { HasWriteCause (O.faults sink.old) (O.faults sink.new) result }
 {

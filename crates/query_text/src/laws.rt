@@ -11,10 +11,15 @@ ghost use Rattle.query_text.specs.Answered.{AreListedIn, AreRead};
 
 /// The answers from a vertex stand in the partition that holds it.
 pub fn answers_stand_in_their_partition()
-    ensures { (ends : List ℕ) (parts : List (List ABorn)) (high : ℕ) (label : ALabel) (u : ℕ) (to : Option ℕ) → IsCut 0 ends high → ArePartitions 0 ends parts → answers_in label (Some u) to (all_edges parts) ≡ answers_in label (Some u) to (slice_index_or parts (place ends u) []) }
+    ensures { (ends : List ℕ) (parts : List (List ABorn)) (high : ℕ) (label : ALabel) (u : ℕ) (to : Option ℕ)
+        → IsCut 0 ends high → ArePartitions 0 ends parts
+        → answers_in label (Some u) to (all_edges parts)
+        ≡ answers_in label (Some u) to (slice_index_or parts (place ends u) []) }
 {}
 
 /// The partitions that were read on a disk that tells its contents are those that these list.
 pub fn edges_are_those_listed()
-    ensures { (s : OpenStore) (c : Contents) (first : ℕ) (read parts : List (List ABorn)) → IsOpenStore s → AreRead s true c first read → AreListedIn s c parts → (i : ℕ) → i < length read → slice_index_or read i [] ≡ slice_index_or parts (first + i) [] }
+    ensures { (s : OpenStore) (c : Contents) (first : ℕ) (read parts : List (List ABorn)) → IsOpenStore s
+        → AreRead s true c first read → AreListedIn s c parts → (i : ℕ) → i < length read
+        → slice_index_or read i [] ≡ slice_index_or parts (first + i) [] }
 {}

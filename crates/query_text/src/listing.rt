@@ -1,9 +1,9 @@
 //! The answers of a label, and all edges.
 ghost use Rattle.std.specs.Prelude.{◌≡◌, ◌+◌, ◌<◌, ◌≤◌, IsTrue, List, length, IfOk, IfSome};
+ghost use Rattle.disk_model.specs.View.{OnlyLooks};
 ghost use Rattle.graph_words.specs.declared.types.Born.{Born as ABorn};
 ghost use Rattle.io_edge.specs.Devices.{Takes};
 ghost use Rattle.closing_machine.specs.Parts.{all_edges};
-ghost use Rattle.manifest_switch.specs.Looks.{OnlyLooks};
 ghost use Rattle.open_store.specs.Store.{IsOpenStore};
 ghost use Rattle.query_text.specs.Text.{answers_in, answers_text, dump_text};
 ghost use Rattle.query_text.specs.Answered.{AreListedIn, HasAnswerCause, IsBlamed, IsPrinted, first_asked, wanted};
@@ -57,16 +57,22 @@ pub fn answers<D: Disk, O: Sink>(
     requires { IfSome from (λ u. u < store.now.manifest.vertices) }
 
     // On any disk: the lines are those of partitions that were read, and their number is told.
-    ensures printed { (read : List (List ABorn)) × IsPrinted store.now D.tells (D.seen disk.old) (first_asked store.now from) (wanted store.now from) (answers_text label from to) (O.told sink.old) (O.told sink.new) result read × IfOk result (λ n. n ≡ length (answers_in label from to (all_edges read))) }
+    ensures printed { (read : List (List ABorn))
+        × IsPrinted store.now D.tells (D.seen disk.old) (first_asked store.now from) (wanted store.now from)
+        (answers_text label from to) (O.told sink.old) (O.told sink.new) result read
+        × IfOk result (λ n. n ≡ length (answers_in label from to (all_edges read))) }
 
     // Where the disk tells its contents, they are those of all partitions that it lists, or a prefix.
-    ensures listed { IsTrue D.tells → (parts : List (List ABorn)) → AreListedIn store.now (D.seen disk.old) parts → Takes (O.told sink.old) (O.told sink.new) result (answers_text label from to (all_edges parts)) }
-    ensures number { IsTrue D.tells → (parts : List (List ABorn)) → AreListedIn store.now (D.seen disk.old) parts → IfOk result (λ n. n ≡ length (answers_in label from to (all_edges parts))) }
+    ensures listed { IsTrue D.tells → (parts : List (List ABorn)) → AreListedIn store.now (D.seen disk.old) parts
+        → Takes (O.told sink.old) (O.told sink.new) result (answers_text label from to (all_edges parts)) }
+    ensures number { IsTrue D.tells → (parts : List (List ABorn)) → AreListedIn store.now (D.seen disk.old) parts
+        → IfOk result (λ n. n ≡ length (answers_in label from to (all_edges parts))) }
 
-    ensures looks { OnlyLooks D.seen D.may_leave D.moment D.left_since disk.old disk.new }
+    ensures looks { OnlyLooks D.Disk disk.old disk.new }
     ensures later { D.faults disk.old ≤ D.faults disk.new }
     ensures writes { O.faults sink.old ≤ O.faults sink.new }
-    ensures cause { HasAnswerCause (O.faults sink.old) (O.faults sink.new) (D.faults disk.old) (D.faults disk.new) (IsBlamed store.now D.tells (D.seen disk.old) (first_asked store.now from) (wanted store.now from)) result }
+    ensures cause { HasAnswerCause (O.faults sink.old) (O.faults sink.new) (D.faults disk.old) (D.faults disk.new)
+        (IsBlamed store.now D.tells (D.seen disk.old) (first_asked store.now from) (wanted store.now from)) result }
 {
     let (first, end) = partitions_of(store, from);
     let show = Show::Label { label, from, to };
@@ -85,15 +91,19 @@ pub fn dump<D: Disk, O: Sink>(
     sink: &mut O,
 ) -> Result<(), AnswerFault>
     // On any disk: the lines are those of partitions that were read.
-    ensures printed { (read : List (List ABorn)) × IsPrinted store.now D.tells (D.seen disk.old) 0 (length store.now.manifest.parts) (dump_text store.now.manifest.labels) (O.told sink.old) (O.told sink.new) result read }
+    ensures printed { (read : List (List ABorn))
+        × IsPrinted store.now D.tells (D.seen disk.old) 0 (length store.now.manifest.parts)
+        (dump_text store.now.manifest.labels) (O.told sink.old) (O.told sink.new) result read }
 
     // Where the disk tells its contents, they are those of all partitions that it lists, or a prefix.
-    ensures listed { IsTrue D.tells → (parts : List (List ABorn)) → AreListedIn store.now (D.seen disk.old) parts → Takes (O.told sink.old) (O.told sink.new) result (dump_text store.now.manifest.labels (all_edges parts)) }
+    ensures listed { IsTrue D.tells → (parts : List (List ABorn)) → AreListedIn store.now (D.seen disk.old) parts
+        → Takes (O.told sink.old) (O.told sink.new) result (dump_text store.now.manifest.labels (all_edges parts)) }
 
-    ensures looks { OnlyLooks D.seen D.may_leave D.moment D.left_since disk.old disk.new }
+    ensures looks { OnlyLooks D.Disk disk.old disk.new }
     ensures later { D.faults disk.old ≤ D.faults disk.new }
     ensures writes { O.faults sink.old ≤ O.faults sink.new }
-    ensures cause { HasAnswerCause (O.faults sink.old) (O.faults sink.new) (D.faults disk.old) (D.faults disk.new) (IsBlamed store.now D.tells (D.seen disk.old) 0 (length store.now.manifest.parts)) result }
+    ensures cause { HasAnswerCause (O.faults sink.old) (O.faults sink.new) (D.faults disk.old) (D.faults disk.new)
+        (IsBlamed store.now D.tells (D.seen disk.old) 0 (length store.now.manifest.parts)) result }
 {
     let end = store.intervals().len();
     show_parts(alloc, disk, store, 0, end, &Show::Named, sink)?;

@@ -1,6 +1,6 @@
 //! Partitions are loaded.
 ghost use Rattle.std.specs.Prelude.{◌≡◌, ◌<◌, ◌≤◌, IsTrue, IfOk, length};
-ghost use Rattle.manifest_switch.specs.Looks.{OnlyLooks};
+ghost use Rattle.disk_model.specs.View.{OnlyLooks};
 ghost use Rattle.store_law.specs.Listed.{part_file, part_of};
 ghost use Rattle.open_store.specs.Reading.{IsRead, IsRefused};
 ghost use Rattle.query_text.specs.Answered.{HasAnswerCause};
@@ -20,9 +20,11 @@ pub(crate) fn load<D: Disk>(
 ) -> Result<Partition, AnswerFault>
     requires { i < length store.now.manifest.parts }
     ensures read { IfOk result (λ p. IsRead store.now i D.tells (D.seen disk.old (part_file store.now.manifest i)) p.edges) }
-    ensures looks { OnlyLooks D.seen D.may_leave D.moment D.left_since disk.old disk.new }
+    ensures looks { OnlyLooks D.Disk disk.old disk.new }
     ensures later { D.faults disk.old ≤ D.faults disk.new }
-    ensures cause { HasAnswerCause 0 0 (D.faults disk.old) (D.faults disk.new) (λ file place kind. (file ≡ part_file store.now.manifest i) × (IsTrue D.tells → IsRefused store.now i (D.seen disk.old file) place kind)) result }
+    ensures cause { HasAnswerCause 0 0 (D.faults disk.old) (D.faults disk.new)
+        (λ file place kind. (file ≡ part_file store.now.manifest i)
+        × (IsTrue D.tells → IsRefused store.now i (D.seen disk.old file) place kind)) result }
 {
     match store.load(alloc, disk, i) {
         Ok(part) => Ok(part),

@@ -1,10 +1,10 @@
 //! How many edges each label has.
 ghost use Rattle.std.specs.Prelude.{◌≡◌, ◌<◌, ◌≤◌, ◌+◌, ◌++◌, ◌^◌, ◌∷◌, [], ℕ, IsTrue, List, length, slice_index_or, IfOk, OnOk, OnErr};
+ghost use Rattle.disk_model.specs.View.{OnlyLooks};
 ghost use Rattle.graph_words.specs.declared.types.Born.{Born as ABorn};
 ghost use Rattle.io_edge.specs.Devices.{HasCause, Takes};
 ghost use Rattle.closing_machine.specs.Parts.{all_edges};
 ghost use Rattle.label_table.specs.Names.{IsTable};
-ghost use Rattle.manifest_switch.specs.Looks.{OnlyLooks};
 ghost use Rattle.open_store.specs.Store.{IsOpenStore};
 ghost use Rattle.query_text.specs.Text.{tally_text};
 ghost use Rattle.query_text.specs.Answered.{AreListedIn, AreRead, HasAnswerCause, IsBlamed, IsPrinted};
@@ -24,7 +24,8 @@ use std::alloc::Global;
 // Counts one more at the number of a label, where it has a name.
 fn count_label(counts: &mut Vec<u64>, label: LabelId)
     requires { (l : ℕ) → slice_index_or counts.old.items l 0 + 1 < 2 ^ 64 }
-    ensures tallied { (named : ℕ) (edges : List ABorn) (b : ABorn) → b.edge.label ≡ label → AreTallied named edges counts.old.items → AreTallied named (edges ++ b ∷ []) counts.new.items }
+    ensures tallied { (named : ℕ) (edges : List ABorn) (b : ABorn) → b.edge.label ≡ label
+        → AreTallied named edges counts.old.items → AreTallied named (edges ++ b ∷ []) counts.new.items }
     ensures little { (l : ℕ) → slice_index_or counts.new.items l 0 ≤ slice_index_or counts.old.items l 0 + 1 }
 {
     let l = usize::from(label.0);
@@ -53,11 +54,14 @@ fn count_part<D: Disk>(
 ) -> Result<(), AnswerFault>
     requires open { IsOpenStore store.now }
     requires i { i < length store.now.manifest.parts }
-    requires tallied { (read : List (List ABorn)) × AreRead store.now D.tells (D.seen disk.old) 0 read × (length read ≡ i) × AreTallied (length store.now.manifest.labels) (all_edges read) counts.old.items }
-    ensures tallied { OnOk result ((read : List (List ABorn)) × AreRead store.now D.tells (D.seen disk.old) 0 read × (length read ≡ i + 1) × AreTallied (length store.now.manifest.labels) (all_edges read) counts.new.items) }
-    ensures looks { OnlyLooks D.seen D.may_leave D.moment D.left_since disk.old disk.new }
+    requires tallied { (read : List (List ABorn)) × AreRead store.now D.tells (D.seen disk.old) 0 read
+        × (length read ≡ i) × AreTallied (length store.now.manifest.labels) (all_edges read) counts.old.items }
+    ensures tallied { OnOk result ((read : List (List ABorn)) × AreRead store.now D.tells (D.seen disk.old) 0 read
+        × (length read ≡ i + 1) × AreTallied (length store.now.manifest.labels) (all_edges read) counts.new.items) }
+    ensures looks { OnlyLooks D.Disk disk.old disk.new }
     ensures later { D.faults disk.old ≤ D.faults disk.new }
-    ensures cause { HasAnswerCause 0 0 (D.faults disk.old) (D.faults disk.new) (IsBlamed store.now D.tells (D.seen disk.old) 0 (length store.now.manifest.parts)) result }
+    ensures cause { HasAnswerCause 0 0 (D.faults disk.old) (D.faults disk.new)
+        (IsBlamed store.now D.tells (D.seen disk.old) 0 (length store.now.manifest.parts)) result }
 {
     let part = load(alloc, disk, store, i)?;
     count_edges(counts, part.edges());
@@ -70,10 +74,13 @@ fn count_labels<D: Disk>(
     disk: &mut D,
     store: &Store,
 ) -> Result<Vec<u64>, AnswerFault>
-    ensures tallied { IfOk result (λ v. (read : List (List ABorn)) × AreRead store.now D.tells (D.seen disk.old) 0 read × (length read ≡ length store.now.manifest.parts) × AreTallied (length store.now.manifest.labels) (all_edges read) v.items) }
-    ensures looks { OnlyLooks D.seen D.may_leave D.moment D.left_since disk.old disk.new }
+    ensures tallied { IfOk result (λ v. (read : List (List ABorn))
+        × AreRead store.now D.tells (D.seen disk.old) 0 read × (length read ≡ length store.now.manifest.parts)
+        × AreTallied (length store.now.manifest.labels) (all_edges read) v.items) }
+    ensures looks { OnlyLooks D.Disk disk.old disk.new }
     ensures later { D.faults disk.old ≤ D.faults disk.new }
-    ensures cause { HasAnswerCause 0 0 (D.faults disk.old) (D.faults disk.new) (IsBlamed store.now D.tells (D.seen disk.old) 0 (length store.now.manifest.parts)) result }
+    ensures cause { HasAnswerCause 0 0 (D.faults disk.old) (D.faults disk.new)
+        (IsBlamed store.now D.tells (D.seen disk.old) 0 (length store.now.manifest.parts)) result }
 {
     let mut counts = vec![in alloc; 0; store.manifest().labels.len()]?;
     for i in 0..store.intervals().len() {
@@ -91,7 +98,8 @@ fn put_lines<O: Sink>(
 ) -> Result<(), Failed>
     requires table { IsTable names.now }
     requires counts { length counts.now ≡ length names.now }
-    ensures gathered { (edges : List ABorn) → AreTallied (length names.now) edges counts.now → Gathers (O.told sink.old) page.old (O.told sink.new) page.new result (tally_text names.now edges) }
+    ensures gathered { (edges : List ABorn) → AreTallied (length names.now) edges counts.now
+        → Gathers (O.told sink.old) page.old (O.told sink.new) page.new result (tally_text names.now edges) }
     ensures cause { HasCause (O.faults sink.old) (O.faults sink.new) result }
 {
     for (l, name) in names.iter().enumerate() {
@@ -108,7 +116,8 @@ fn print_lines<O: Sink>(
     counts: &[u64],
 ) -> Result<(), AnswerFault>
     requires { length counts.now ≡ length table.now }
-    ensures taken { (edges : List ABorn) → AreTallied (length table.now) edges counts.now → Takes (O.told sink.old) (O.told sink.new) result (tally_text table.now edges) }
+    ensures taken { (edges : List ABorn) → AreTallied (length table.now) edges counts.now
+        → Takes (O.told sink.old) (O.told sink.new) result (tally_text table.now edges) }
     ensures writes { O.faults sink.old ≤ O.faults sink.new }
     ensures cause { HasAnswerCause (O.faults sink.old) (O.faults sink.new) 0 0 (λ file place kind. ⊥) result }
 {
@@ -130,15 +139,20 @@ pub fn tally<D: Disk, O: Sink>(
     sink: &mut O,
 ) -> Result<(), AnswerFault>
     // On any disk: the counts are those of partitions that were read.
-    ensures printed { (read : List (List ABorn)) × IsPrinted store.now D.tells (D.seen disk.old) 0 (length store.now.manifest.parts) (tally_text store.now.manifest.labels) (O.told sink.old) (O.told sink.new) result read }
+    ensures printed { (read : List (List ABorn))
+        × IsPrinted store.now D.tells (D.seen disk.old) 0 (length store.now.manifest.parts)
+        (tally_text store.now.manifest.labels) (O.told sink.old) (O.told sink.new) result read }
 
     // Where the disk tells its contents, they are those of all partitions that it lists.
-    ensures listed { IsTrue D.tells → (parts : List (List ABorn)) → AreListedIn store.now (D.seen disk.old) parts → Takes (O.told sink.old) (O.told sink.new) result (tally_text store.now.manifest.labels (all_edges parts)) }
+    ensures listed { IsTrue D.tells → (parts : List (List ABorn)) → AreListedIn store.now (D.seen disk.old) parts
+        → Takes (O.told sink.old) (O.told sink.new) result
+        (tally_text store.now.manifest.labels (all_edges parts)) }
 
-    ensures looks { OnlyLooks D.seen D.may_leave D.moment D.left_since disk.old disk.new }
+    ensures looks { OnlyLooks D.Disk disk.old disk.new }
     ensures later { D.faults disk.old ≤ D.faults disk.new }
     ensures writes { O.faults sink.old ≤ O.faults sink.new }
-    ensures cause { HasAnswerCause (O.faults sink.old) (O.faults sink.new) (D.faults disk.old) (D.faults disk.new) (IsBlamed store.now D.tells (D.seen disk.old) 0 (length store.now.manifest.parts)) result }
+    ensures cause { HasAnswerCause (O.faults sink.old) (O.faults sink.new) (D.faults disk.old) (D.faults disk.new)
+        (IsBlamed store.now D.tells (D.seen disk.old) 0 (length store.now.manifest.parts)) result }
 {
     let counts = count_labels(alloc, disk, store)?;
     print_lines(alloc, sink, &store.manifest().labels, &counts)

@@ -1,8 +1,8 @@
 //! Partitions are loaded one after the other, and their edges shown.
 ghost use Rattle.std.specs.Prelude.{◌≡◌, ◌<◌, ◌≤◌, ◌+◌, ◌-◌, ℕ, IsTrue, List, length, IfOk};
+ghost use Rattle.disk_model.specs.View.{OnlyLooks};
 ghost use Rattle.graph_words.specs.declared.types.Born.{Born as ABorn};
 ghost use Rattle.closing_machine.specs.Parts.{all_edges};
-ghost use Rattle.manifest_switch.specs.Looks.{OnlyLooks};
 ghost use Rattle.open_store.specs.Store.{IsOpenStore};
 ghost use Rattle.query_text.specs.Answered.{HasAnswerCause, IsBlamed, IsPrinted};
 ghost use Rattle.query_text.specs.Shown.{IsGathered, shown_in, shown_text};
@@ -27,11 +27,14 @@ fn show_part<D: Disk, O: Sink>(
     sink: &mut O,
 ) -> Result<u64, AnswerFault>
     requires { i < length store.now.manifest.parts }
-    ensures gathered { (read : List (List ABorn)) × IsGathered store.now D.tells (D.seen disk.old) i 1 show.now (O.told sink.old) page.old (O.told sink.new) page.new result read }
-    ensures looks { OnlyLooks D.seen D.may_leave D.moment D.left_since disk.old disk.new }
+    ensures gathered { (read : List (List ABorn))
+        × IsGathered store.now D.tells (D.seen disk.old) i 1 show.now (O.told sink.old) page.old
+        (O.told sink.new) page.new result read }
+    ensures looks { OnlyLooks D.Disk disk.old disk.new }
     ensures later { D.faults disk.old ≤ D.faults disk.new }
     ensures writes { O.faults sink.old ≤ O.faults sink.new }
-    ensures cause { HasAnswerCause (O.faults sink.old) (O.faults sink.new) (D.faults disk.old) (D.faults disk.new) (IsBlamed store.now D.tells (D.seen disk.old) i 1) result }
+    ensures cause { HasAnswerCause (O.faults sink.old) (O.faults sink.new) (D.faults disk.old) (D.faults disk.new)
+        (IsBlamed store.now D.tells (D.seen disk.old) i 1) result }
 {
     let part = load(alloc, disk, store, i)?;
     let shown = show.put_edges(page, sink, &store.manifest().labels, part.edges())?;
@@ -52,11 +55,14 @@ fn show_each<D: Disk, O: Sink>(
     requires open { IsOpenStore store.now }
     requires order { first ≤ end }
     requires there { end ≤ length store.now.manifest.parts }
-    ensures gathered { (read : List (List ABorn)) × IsGathered store.now D.tells (D.seen disk.old) first (end - first) show.now (O.told sink.old) page.old (O.told sink.new) page.new result read }
-    ensures looks { OnlyLooks D.seen D.may_leave D.moment D.left_since disk.old disk.new }
+    ensures gathered { (read : List (List ABorn))
+        × IsGathered store.now D.tells (D.seen disk.old) first (end - first) show.now (O.told sink.old) page.old
+        (O.told sink.new) page.new result read }
+    ensures looks { OnlyLooks D.Disk disk.old disk.new }
     ensures later { D.faults disk.old ≤ D.faults disk.new }
     ensures writes { O.faults sink.old ≤ O.faults sink.new }
-    ensures cause { HasAnswerCause (O.faults sink.old) (O.faults sink.new) (D.faults disk.old) (D.faults disk.new) (IsBlamed store.now D.tells (D.seen disk.old) first (end - first)) result }
+    ensures cause { HasAnswerCause (O.faults sink.old) (O.faults sink.new) (D.faults disk.old) (D.faults disk.new)
+        (IsBlamed store.now D.tells (D.seen disk.old) first (end - first)) result }
 {
     let mut shown = 0;
     for i in first..end {
@@ -80,11 +86,15 @@ pub(crate) fn show_parts<D: Disk, O: Sink>(
     requires open { IsOpenStore store.now }
     requires order { first ≤ end }
     requires there { end ≤ length store.now.manifest.parts }
-    ensures printed { (read : List (List ABorn)) × IsPrinted store.now D.tells (D.seen disk.old) first (end - first) (shown_text show.now store.now.manifest.labels) (O.told sink.old) (O.told sink.new) result read × IfOk result (λ n. n ≡ length (shown_in show.now store.now.manifest.labels (all_edges read))) }
-    ensures looks { OnlyLooks D.seen D.may_leave D.moment D.left_since disk.old disk.new }
+    ensures printed { (read : List (List ABorn))
+        × IsPrinted store.now D.tells (D.seen disk.old) first (end - first)
+        (shown_text show.now store.now.manifest.labels) (O.told sink.old) (O.told sink.new) result read
+        × IfOk result (λ n. n ≡ length (shown_in show.now store.now.manifest.labels (all_edges read))) }
+    ensures looks { OnlyLooks D.Disk disk.old disk.new }
     ensures later { D.faults disk.old ≤ D.faults disk.new }
     ensures writes { O.faults sink.old ≤ O.faults sink.new }
-    ensures cause { HasAnswerCause (O.faults sink.old) (O.faults sink.new) (D.faults disk.old) (D.faults disk.new) (IsBlamed store.now D.tells (D.seen disk.old) first (end - first)) result }
+    ensures cause { HasAnswerCause (O.faults sink.old) (O.faults sink.new) (D.faults disk.old) (D.faults disk.new)
+        (IsBlamed store.now D.tells (D.seen disk.old) first (end - first)) result }
 {
     let mut page = Page::new(alloc)?;
     let shown = show_each(alloc, disk, store, first, end, show, &mut page, sink)?;

@@ -25,14 +25,16 @@ pub record AreChains (edges : List Born) (k : ℕ) (first next : List ℕ) : Typ
 pub record AtSource (edges : List Born) (x : Vertex) (place : ℕ) : Type 0 where
   pub within : place ≤ length edges
   pub here : (d : Born) → place < length edges → (slice_index_or edges place d).edge.dst.0 ≡ x.0
-  pub before : (j : ℕ) (d : Born) → j < place → place < length edges → (slice_index_or edges j d).edge.dst.0 ≡ x.0 → (slice_index_or edges j d).edge.src.0 < (slice_index_or edges place d).edge.src.0
+  pub before : (j : ℕ) (d : Born) → j < place → place < length edges → (slice_index_or edges j d).edge.dst.0 ≡ x.0
+      → (slice_index_or edges j d).edge.src.0 < (slice_index_or edges place d).edge.src.0
 
 -- `end` is the place of the first edge into x behind this place that begins elsewhere, or the end
 pub record IsNextSource (edges : List Born) (x : Vertex) (place end : ℕ) : Type 0 where
   pub on : place < end
   pub within : end ≤ length edges
   pub here : (d : Born) → end < length edges → (slice_index_or edges end d).edge.dst.0 ≡ x.0
-  pub same : (j : ℕ) (d : Born) → place ≤ j → j < end → (slice_index_or edges j d).edge.dst.0 ≡ x.0 → (slice_index_or edges j d).edge.src.0 ≡ (slice_index_or edges place d).edge.src.0
+  pub same : (j : ℕ) (d : Born) → place ≤ j → j < end → (slice_index_or edges j d).edge.dst.0 ≡ x.0
+      → (slice_index_or edges j d).edge.src.0 ≡ (slice_index_or edges place d).edge.src.0
   pub other : (d : Born) → end < length edges → (slice_index_or edges place d).edge.src.0 < (slice_index_or edges end d).edge.src.0
 
 -- the edge at the place begins at v

@@ -83,14 +83,18 @@ AddsFirst n every since b edges before after = (a : LabelId) (w : Vertex)
 -- and so with each of these first edges
 abbrev pub AddsRows : Normal → Bool → ℕ → List Born → List Born → List Block → List Block → Type 0
 AddsRows n every since firsts edges before after = (a : LabelId) (w : Vertex)
-    → Gives after a w ↔ (Gives before a w ⊎ ((b : Born) × Contains firsts b × Counts every since b × JoinsTo n b.edge.label (row_of b.edge.dst.0 edges) a w))
+    → Gives after a w ↔ (Gives before a w ⊎ ((b : Born) × Contains firsts b × Counts every since b
+        × JoinsTo n b.edge.label (row_of b.edge.dst.0 edges) a w))
 
 -- what an edge that ends at the centre x joins to: a new one with the row of x, and an old one with its new edges
 abbrev pub Through : Normal → ℕ → Vertex → List Born → List Born → Born → LabelId → Vertex → Type 0
-Through n since x row newer b a w = (b.edge.dst ≡ x) × (((since ≤ b.birth) × JoinsTo n b.edge.label row a w) ⊎ ((b.birth < since) × JoinsTo n b.edge.label newer a w))
+Through n since x row newer b a w = (b.edge.dst ≡ x)
+    × (((since ≤ b.birth) × JoinsTo n b.edge.label row a w)
+    ⊎ ((b.birth < since) × JoinsTo n b.edge.label newer a w))
 
 abbrev pub AddsThroughOne : Normal → ℕ → Vertex → List Born → List Born → Born → List Block → List Block → Type 0
-AddsThroughOne n since x row newer b before after = (a : LabelId) (w : Vertex) → Gives after a w ↔ (Gives before a w ⊎ Through n since x row newer b a w)
+AddsThroughOne n since x row newer b before after = (a : LabelId) (w : Vertex) → Gives after a w
+    ↔ (Gives before a w ⊎ Through n since x row newer b a w)
 
 -- the blocks give just the joins of a sort from u
 abbrev pub GivesJoins : (Edge → Type 0) → Vertex → List Block → Type 0

@@ -197,7 +197,8 @@ fn add_first<'a>(
     blocks: &mut Vec<Block<'a>>,
 ) -> Result<(), AllocError>
     requires { AreSeconds (normal_form seconds.now.normal.now) first.edge.label seconds.now.rows.now.edges labels.now }
-    ensures { OnOk result (AddsFirst (normal_form seconds.now.normal.now) seconds.now.every seconds.now.since first seconds.now.rows.now.edges blocks.old.items blocks.new.items) }
+    ensures { OnOk result (AddsFirst (normal_form seconds.now.normal.now) seconds.now.every seconds.now.since first
+        seconds.now.rows.now.edges blocks.old.items blocks.new.items) }
 {
     if !counts(seconds.every, first, seconds.since) {
         return Ok(());
@@ -220,7 +221,8 @@ fn add_firsts<'a>(
 ) -> Result<(), AllocError>
     requires run { All (λ b. b.edge.label ≡ label) firsts.now }
     requires labels { AreSeconds (normal_form seconds.now.normal.now) label seconds.now.rows.now.edges labels.now }
-    ensures { OnOk result (AddsRows (normal_form seconds.now.normal.now) seconds.now.every seconds.now.since firsts.now seconds.now.rows.now.edges blocks.old.items blocks.new.items) }
+    ensures { OnOk result (AddsRows (normal_form seconds.now.normal.now) seconds.now.every seconds.now.since
+        firsts.now seconds.now.rows.now.edges blocks.old.items blocks.new.items) }
 {
     for born in firsts {
         add_first(seconds, *born, labels, blocks)?;
@@ -238,7 +240,8 @@ fn add_firsts_if<'a>(
 ) -> Result<(), AllocError>
     requires run { All (λ b. b.edge.label ≡ label) firsts.now }
     requires labels { AreSeconds (normal_form seconds.now.normal.now) label seconds.now.rows.now.edges labels.now }
-    ensures { OnOk result (AddsRows (normal_form seconds.now.normal.now) seconds.now.every seconds.now.since firsts.now seconds.now.rows.now.edges blocks.old.items blocks.new.items) }
+    ensures { OnOk result (AddsRows (normal_form seconds.now.normal.now) seconds.now.every seconds.now.since
+        firsts.now seconds.now.rows.now.edges blocks.old.items blocks.new.items) }
 {
     if labels.is_empty() {
         return Ok(());
@@ -256,7 +259,8 @@ fn add_rows<'a>(
 ) -> Result<(), AllocError>
     requires firsts { LabelsAscend firsts.now }
     requires labels { IfSome seconds.now.labels (λ known. HasLabels seconds.now.rows.now.edges known.now) }
-    ensures { OnOk result (AddsRows (normal_form seconds.now.normal.now) seconds.now.every seconds.now.since firsts.now seconds.now.rows.now.edges blocks.old.items blocks.new.items) }
+    ensures { OnOk result (AddsRows (normal_form seconds.now.normal.now) seconds.now.every seconds.now.since
+        firsts.now seconds.now.rows.now.edges blocks.old.items blocks.new.items) }
 {
     let mut start = 0;
     while start < firsts.len() {

@@ -40,7 +40,8 @@ fn add_in_edge<'a>(
     requires row { LabelsAscend centre.now.row.now }
     requires newer { LabelsAscend centre.now.newer.now }
     requires end { first.edge.dst.0 ≡ centre.now.vertex.0 }
-    ensures { OnOk result (AddsThroughOne (normal_form centre.now.normal.now) centre.now.since centre.now.vertex centre.now.row.now centre.now.newer.now first blocks.old.items blocks.new.items) }
+    ensures { OnOk result (AddsThroughOne (normal_form centre.now.normal.now) centre.now.since centre.now.vertex
+        centre.now.row.now centre.now.newer.now first blocks.old.items blocks.new.items) }
 {
     labels.clear();
     centre.normal.seconds(first.edge.label, labels)?;
@@ -72,7 +73,9 @@ fn set_source_blocks<'a>(
     requires at { AtSource centre.now.rows.now.edges centre.now.vertex place }
     requires there { place < length centre.now.rows.now.edges }
     ensures next { IfOk result (λ end. IsNextSource centre.now.rows.now.edges centre.now.vertex place end) }
-    ensures blocks { OnOk result ((u : AVertex) → BeginsAt centre.now.rows.now.edges place u.0 → GivesJoins (IsCandidate (normal_form centre.now.normal.now) centre.now.rows.now.edges centre.now.since centre.now.vertex) u blocks.new.items) }
+    ensures blocks { OnOk result ((u : AVertex) → BeginsAt centre.now.rows.now.edges place u.0
+        → GivesJoins (IsCandidate (normal_form centre.now.normal.now) centre.now.rows.now.edges centre.now.since
+        centre.now.vertex) u blocks.new.items) }
 {
     blocks.clear();
     let edges = centre.rows.edges();
@@ -101,7 +104,9 @@ fn join_source<'a>(
     requires at { AtSource centre.now.rows.now.edges centre.now.vertex place }
     requires there { place < length centre.now.rows.now.edges }
     ensures next { IfOk result (λ end. IsNextSource centre.now.rows.now.edges centre.now.vertex place end) }
-    ensures joins { OnOk result (AppendsJoins centre.now.rows.now.edges (IsCandidate (normal_form centre.now.normal.now) centre.now.rows.now.edges centre.now.since centre.now.vertex) (BeginsAt centre.now.rows.now.edges place) out.old.items out.new.items) }
+    ensures joins { OnOk result (AppendsJoins centre.now.rows.now.edges
+        (IsCandidate (normal_form centre.now.normal.now) centre.now.rows.now.edges centre.now.since
+        centre.now.vertex) (BeginsAt centre.now.rows.now.edges place) out.old.items out.new.items) }
 {
     let vertex = centre.rows.edges()[place].edge.src;
     let end = set_source_blocks(centre, place, labels, blocks)?;

@@ -15,7 +15,8 @@ use std::alloc::AllocError;
 fn is_centre(rows: &Rows, ends: &NumberSet, vertex: u32) -> bool
     requires { IsEndSet rows.now.edges ends.now }
     ensures yes { IsTrue result → IsCentre rows.now.edges (vertex_of vertex) }
-    ensures all { (x y : ABorn) → Contains rows.now.edges x → Contains rows.now.edges y → x.edge.dst.0 ≡ vertex → y.edge.src.0 ≡ vertex → IsTrue result }
+    ensures all { (x y : ABorn) → Contains rows.now.edges x → Contains rows.now.edges y → x.edge.dst.0 ≡ vertex
+        → y.edge.src.0 ≡ vertex → IsTrue result }
 {
     ends.has(vertex) && !rows.row(vertex).is_empty()
 }

@@ -36,7 +36,9 @@ fn join_vertex<'a>(
 ) -> Result<(), AllocError>
     requires newer { snapshot.now.newer.now ≡ newer_of snapshot.now.since snapshot.now.rows.now }
     requires labels { HasLabels snapshot.now.newer.now.edges snapshot.now.newer_labels.now }
-    ensures { OnOk result (AppendsJoins snapshot.now.rows.now.edges (IsJoinOf (normal_form snapshot.now.normal.now) snapshot.now.rows.now.edges snapshot.now.since) (λ v. v ≡ vertex.0) out.old.items out.new.items) }
+    ensures { OnOk result (AppendsJoins snapshot.now.rows.now.edges
+        (IsJoinOf (normal_form snapshot.now.normal.now) snapshot.now.rows.now.edges snapshot.now.since)
+        (λ v. v ≡ vertex.0) out.old.items out.new.items) }
 {
     set_blocks(
         snapshot.normal,
@@ -64,7 +66,9 @@ fn join_span<'a>(
     requires newer { snapshot.now.newer.now ≡ newer_of snapshot.now.since snapshot.now.rows.now }
     requires labels { HasLabels snapshot.now.newer.now.edges snapshot.now.newer_labels.now }
     requires bounds { span.lo ≤ span.hi }
-    ensures { OnOk result (AppendsJoins snapshot.now.rows.now.edges (IsJoinOf (normal_form snapshot.now.normal.now) snapshot.now.rows.now.edges snapshot.now.since) (LiesIn span) out.old.items out.new.items) }
+    ensures { OnOk result (AppendsJoins snapshot.now.rows.now.edges
+        (IsJoinOf (normal_form snapshot.now.normal.now) snapshot.now.rows.now.edges snapshot.now.since)
+        (LiesIn span) out.old.items out.new.items) }
 {
     for vertex in span.lo..span.hi {
         join_vertex(snapshot, Vertex(vertex), labels, blocks, sieve, out)?;
@@ -84,7 +88,9 @@ fn join_high<'a>(
     requires newer { snapshot.now.newer.now ≡ newer_of snapshot.now.since snapshot.now.rows.now }
     requires labels { HasLabels snapshot.now.newer.now.edges snapshot.now.newer_labels.now }
     requires bounds { IfSome high (λ s. s.lo ≤ s.hi) }
-    ensures { OnOk result (AppendsJoins snapshot.now.rows.now.edges (IsJoinOf (normal_form snapshot.now.normal.now) snapshot.now.rows.now.edges snapshot.now.since) (LiesInHigh high) out.old.items out.new.items) }
+    ensures { OnOk result (AppendsJoins snapshot.now.rows.now.edges
+        (IsJoinOf (normal_form snapshot.now.normal.now) snapshot.now.rows.now.edges snapshot.now.since)
+        (LiesInHigh high) out.old.items out.new.items) }
 {
     match high {
         None => Ok(()),

@@ -101,7 +101,8 @@ fn push_edges(
 /// Adds an edge, unless the row has it.
 fn push_unless(row: &[Born], edge: Edge, out: &mut Vec<Edge>) -> Result<(), AllocError>
     requires { IsOrdered row.now }
-    ensures { OnOk result ((HasEdge row.now edge × (out.new.items ≡ out.old.items)) ⊎ ((HasEdge row.now edge → ⊥) × (out.new.items ≡ out.old.items ++ edge ∷ []))) }
+    ensures { OnOk result ((HasEdge row.now edge × (out.new.items ≡ out.old.items))
+        ⊎ ((HasEdge row.now edge → ⊥) × (out.new.items ≡ out.old.items ++ edge ∷ []))) }
 {
     if has_edge(row, edge) {
         return Ok(());

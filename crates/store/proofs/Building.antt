@@ -15,7 +15,7 @@ use Rattle.intervals.specs.Bounds.{IsCut, low_of, vertices_of}
 use Rattle.partition_file.specs.Spelling.{newest_format, Fits, Part, spelling}
 use Rattle.dest_map.specs.Counts.{IsCountsOf}
 use Rattle.dest_map.specs.Table.{counts_of}
-use Rattle.manifest.specs.declared.types.PartEntry.{PartEntry}
+use Rattle.manifest_codec.specs.declared.types.PartEntry.{PartEntry}
 use Rattle.import_text.specs.Given.{AreGiven}
 use Rattle.import_text.specs.Reading.{expect_given}
 use Rattle.store.specs.declared.source.Source.{Source}

@@ -4,9 +4,9 @@ use Rattle.std.specs.Prelude.{map}
 use Rattle.std.proofs.lemmas.List.{ext_get_or, length-map}
 use Rattle.closing_machine.specs.Machine.{high, low}
 use Rattle.intervals.specs.Bounds.{IsCut, low_of, vertices_of}
-use Rattle.manifest.specs.declared.types.PartEntry.{PartEntry}
-use Rattle.manifest.specs.Rules.{widths}
-use Rattle.manifest.specs.Spelling.{Cover}
+use Rattle.manifest_codec.specs.declared.types.PartEntry.{PartEntry}
+use Rattle.manifest_codec.specs.Rules.{widths}
+use Rattle.manifest_codec.specs.Spelling.{Cover}
 
 pub same_low : (ends : List ℕ) (k : ℕ) → low ends k ≡ low_of ends k
 same_low ends zero = refl

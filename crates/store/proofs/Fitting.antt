@@ -13,9 +13,9 @@ use Rattle.intervals.specs.Bounds.{IsCut, LiesIn, interval_of, vertices_of}
 use Rattle.intervals.proofs.BoundsLemmas.{each_vertex_lies, lies_below}
 use Rattle.dest_map.specs.Table.{counts_of}
 use Rattle.partition_file.specs.Spelling.{FitsEdge}
-use Rattle.manifest.specs.declared.types.PartEntry.{PartEntry}
-use Rattle.manifest.specs.declared.types.Manifest.{Manifest}
-use Rattle.manifest.specs.Spelling.{Fits, width}
+use Rattle.manifest_codec.specs.declared.types.PartEntry.{PartEntry}
+use Rattle.manifest_codec.specs.declared.types.Manifest.{Manifest}
+use Rattle.manifest_codec.specs.Spelling.{Fits, width}
 use Rattle.disk_model.specs.Disk.{Contents}
 use Rattle.store_law.proofs.Intervals.{are_partitions, cut_from_cover}
 use Rattle.open_store.proofs.Places.{place_of_lies}

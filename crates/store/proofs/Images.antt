@@ -4,7 +4,7 @@ use Rattle.disk_model.specs.Disk.{Contents}
 use Rattle.disk_model.specs.Crash.{From, LeavesOnly}
 use Rattle.disk_model.specs.Run.{no_step, then_no_more, then_run}
 use Rattle.disk_files.specs.Files.{OnlyFile}
-use Rattle.manifest_switch.specs.Looks.{OnlyLooks}
+use Rattle.disk_model.specs.Looks.{Looks}
 use Rattle.store.specs.Making.{IsBeside}
 
 pub beside_refl : (c : Contents) → IsBeside c c
@@ -23,7 +23,7 @@ module _ {D : Type 0} (seen : D → Contents) (moment : D → ℕ) (left_since :
   nothing old = no_step moment left_since images counts_now only_now old IsBeside beside_refl
 
   -- a look
-  pub looked : (old new : D) → OnlyLooks seen images moment left_since old new → LeavesOnly moment left_since old new (From (images old) IsBeside)
+  pub looked : (old new : D) → Looks seen images moment left_since old new → LeavesOnly moment left_since old new (From (images old) IsBeside)
   looked old new looks = then_no_more moment left_since images counts_now only_now old old new (From (images old) IsBeside) (nothing old) looks.time looks.no_more
 
   -- a run more

@@ -24,9 +24,9 @@ use Rattle.intervals.specs.DegreeCut.{IsCutByDegree}
 use Rattle.partition_file.specs.Spelling.{Fits as PartFits, newest_format}
 use Rattle.dest_map.specs.Table.{counts_of}
 use Rattle.pair_sched.specs.Marks.{joined_of, newest_of}
-use Rattle.manifest.specs.declared.types.PartEntry.{PartEntry}
-use Rattle.manifest.specs.declared.types.Manifest.{Manifest}
-use Rattle.manifest.specs.Spelling.{Fits}
+use Rattle.manifest_codec.specs.declared.types.PartEntry.{PartEntry}
+use Rattle.manifest_codec.specs.declared.types.Manifest.{Manifest}
+use Rattle.manifest_codec.specs.Spelling.{Fits}
 use Rattle.import_text.specs.Given.{AreGiven}
 use Rattle.store_law.specs.Texts.{AreGood, Texts, graph, names_of, normal, rules}
 use Rattle.store_law.specs.Listed.{AreListed, ends_of, expect_of, part_file, part_of, state_in}

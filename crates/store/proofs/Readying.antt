@@ -14,8 +14,8 @@ use Rattle.grammar_norm.specs.GrammarText.{grammar_names, rule_fault}
 use Rattle.normal_form.proofs.NormalLemmas.{fresh_few}
 use Rattle.disk_model.specs.Disk.{Contents}
 use Rattle.intervals.specs.DegreeCut.{IsCutByDegree}
-use Rattle.manifest.specs.declared.types.PartEntry.{PartEntry}
-use Rattle.manifest.specs.declared.types.Manifest.{Manifest}
+use Rattle.manifest_codec.specs.declared.types.PartEntry.{PartEntry}
+use Rattle.manifest_codec.specs.declared.types.Manifest.{Manifest}
 use Rattle.import_text.specs.Reading.{IsGoodCopy}
 use Rattle.store.specs.declared.source.Source.{Source}
 use Rattle.store.specs.declared.tables.Tables.{Tables}

@@ -5,7 +5,7 @@ use Rattle.grammar_norm.specs.GrammarText.{ReadsGrammar}
 use Rattle.disk_model.specs.Disk.{Contents}
 use Rattle.disk_model.specs.Crash.{From, LeavesOnly}
 use Rattle.disk_model.specs.Run.{at_end, then_run}
-use Rattle.manifest.specs.declared.types.Manifest.{Manifest}
+use Rattle.manifest_codec.specs.declared.types.Manifest.{Manifest}
 use Rattle.manifest_switch.specs.declared.slot.Slot.{Slot}
 use Rattle.manifest_switch.specs.declared.slot.Slot.TheVariants.{Zero}
 use Rattle.manifest_switch.specs.Slots.{HasOnly, IsBlank, chosen, current_of, is_open, open_body}

@@ -7,7 +7,7 @@ use Rattle.edge_text.specs.EdgesText.{edges_fault}
 use Rattle.grammar_norm.specs.GrammarText.{ReadsGrammar, grammar_names}
 use Rattle.disk_model.specs.Disk.{Contents, Rose as DiskRose}
 use Rattle.disk_model.specs.declared.form_kind.FormKind.TheVariants.{BadText}
-use Rattle.manifest.specs.declared.types.Manifest.{Manifest}
+use Rattle.manifest_codec.specs.declared.types.Manifest.{Manifest}
 use Rattle.manifest_switch.specs.declared.slot.Slot.{Slot}
 use Rattle.manifest_switch.specs.declared.slot.Slot.TheVariants.{Zero}
 use Rattle.manifest_switch.specs.declared.slot.Found.TheVariants.{At}
@@ -61,7 +61,8 @@ Imports grammar told limit old new = (current_of new ≡ current_of old) ⊎ Has
 abbrev pub HasImportCause : List ℕ → Option (List ℕ) → Type 0 → ℕ → ℕ → ℕ → ℕ → StoreFault → Type 0
 HasImportCause grammar told tells reads reads' calls calls' ReadFault = Rose reads reads'
 HasImportCause grammar told tells reads reads' calls calls' DiskFault = DiskRose calls calls'
-HasImportCause grammar told tells reads reads' calls calls' (InputFault Edges line kind) = (text : List ℕ) → told ≡ Some text → edges_fault 0 (grammar_names grammar) text ≡ Some (record { line = line; kind = kind })
+HasImportCause grammar told tells reads reads' calls calls' (InputFault Edges line kind) = (text : List ℕ)
+    → told ≡ Some text → edges_fault 0 (grammar_names grammar) text ≡ Some (record { line = line; kind = kind })
 HasImportCause grammar told tells reads reads' calls calls' (InputFault _ line kind) = ⊥
 HasImportCause grammar told tells reads reads' calls calls' (OtherInput file place) = ⊥
 HasImportCause grammar told tells reads reads' calls calls' (BadStore file place kind) = (file ≡ 3) × (place ≡ 0) × (kind ≡ BadText) × (tells → ⊥)

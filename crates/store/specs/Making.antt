@@ -22,8 +22,8 @@ use Rattle.import_text.specs.Reading.{IsGoodCopy, expect_given}
 use Rattle.label_table.specs.Names.{IsTable}
 use Rattle.pair_sched.specs.Marks.{joined_of, newest_of}
 use Rattle.partition_file.specs.declared.types.Expect.{Expect}
-use Rattle.manifest.specs.declared.types.Manifest.{Manifest}
-use Rattle.manifest.specs.Spelling.{AreMarks, Fits as KeepsRules}
+use Rattle.manifest_codec.specs.declared.types.Manifest.{Manifest}
+use Rattle.manifest_codec.specs.Spelling.{AreMarks, Fits as KeepsRules}
 use Rattle.store_law.specs.Texts.{AreGood, graph, names_of}
 use Rattle.store_law.specs.Imported.{IsFresh}
 use Rattle.store_law.specs.Listed.{ends_of}

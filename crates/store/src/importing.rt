@@ -1,7 +1,8 @@
 //! A store is made of two texts.
 ghost use Rattle.std.specs.Prelude.{◌≡◌, ◌≤◌, ℕ, List, None, IsTrue, IfOk, IfErr};
+ghost use Rattle.io_edge.specs.View.{NoCountFalls};
 ghost use Rattle.disk_model.specs.Disk.{Contents};
-ghost use Rattle.disk_model.specs.Crash.{LeavesJust, LeavesOnly, From};
+ghost use Rattle.disk_model.specs.View.{IsDurable, LeavesBy};
 ghost use Rattle.grammar_norm.specs.GrammarText.{grammar_fault};
 ghost use Rattle.manifest_switch.specs.Slots.{IsBlank};
 ghost use Rattle.open_store.specs.Store.{IsHeldAlone};
@@ -48,15 +49,16 @@ pub fn import<I: Inputs, D: Disk>(
 
     // It is the fresh store of both texts.
     ensures imported { IsTrue D.tells → IfOk result (λ s. IsImportOf grammar.now (I.told inputs.old edges.now) limit (D.seen disk.new) s.manifest) }
-    ensures synced { IfOk result (λ _. LeavesJust (D.seen disk.new) (D.may_leave disk.new)) }
+    ensures synced { IfOk result (λ _. IsDurable D.Disk disk.new) }
 
     // At each moment of a crash it is there as a whole or not at all.
-    ensures any_moment { LeavesOnly D.moment D.left_since disk.old disk.new (From (D.may_leave disk.old) (Imports grammar.now (I.told inputs.old edges.now) limit)) }
+    ensures any_moment { LeavesBy D.Disk disk.old disk.new (Imports grammar.now (I.told inputs.old edges.now) limit) }
 
     // Each fault has its cause.
-    ensures cause { IfErr result (HasImportCause grammar.now (I.told inputs.old edges.now) (IsTrue D.tells) (I.faults inputs.old edges.now) (I.faults inputs.new edges.now) (D.faults disk.old) (D.faults disk.new)) }
+    ensures cause { IfErr result (HasImportCause grammar.now (I.told inputs.old edges.now) (IsTrue D.tells)
+        (I.faults inputs.old edges.now) (I.faults inputs.new edges.now) (D.faults disk.old) (D.faults disk.new)) }
     ensures kept { I.told inputs.new ≡ I.told inputs.old }
-    ensures others { (other : List ℕ) → I.faults inputs.old other ≤ I.faults inputs.new other }
+    ensures others { NoCountFalls I.Inputs inputs.old inputs.new }
     ensures later { D.faults disk.old ≤ D.faults disk.new }
 {
     let prepared = prepare(alloc, inputs, edges, grammar, disk, limit)?;

@@ -1,8 +1,7 @@
 //! The partitions of a new store are made and put, one after the other.
 ghost use Rattle.std.specs.Prelude.{◌≡◌, ◌+◌, ◌<◌, ◌≤◌, ℕ, IsTrue, IfOk, OnOk, All, length};
 ghost use Rattle.normal_law.specs.NormalForm.{normal_form};
-ghost use Rattle.disk_model.specs.Crash.{LeavesOnly, From};
-ghost use Rattle.manifest_switch.specs.Looks.{OnlyLooks};
+ghost use Rattle.disk_model.specs.View.{LeavesBy, OnlyLooks};
 ghost use Rattle.partition_file.specs.Spelling.{Fits};
 ghost use Rattle.import_text.specs.Given.{AreGiven};
 ghost use Rattle.import_text.specs.Reading.{IsGoodCopy, expect_given};
@@ -17,7 +16,7 @@ use disk_files::rewrite;
 use disk_model::Disk;
 use import_text::given_edges;
 use intervals::Intervals;
-use manifest::{PartEntry, PartList};
+use manifest_codec::{PartEntry, PartList};
 use open_store::StoreFault;
 use partition_file::{Partition, encode};
 use std::alloc::Global;
@@ -38,9 +37,11 @@ fn given_part<D: Disk>(
     requires vertices { source.now.copied.vertices ≤ 16777216 }
     requires rules { All (λ r. r.left.0 < length source.now.copied.labels) source.now.normal }
     requires good { IsTrue D.tells → IsGoodCopy source.now.copied.labels source.now.copied.len source.now.copied.vertices (D.seen disk.old 3) }
-    ensures fits { IfOk result (Fits (expect_given lo hi source.now.copied.vertices (length source.now.copied.labels) (normal_form source.now.normal).fresh)) }
-    ensures given { IsTrue D.tells → IfOk result (λ p. AreGiven (normal_form source.now.normal) (graph_in source.now (D.seen disk.old)) lo hi p.edges) }
-    ensures looks { OnlyLooks D.seen D.may_leave D.moment D.left_since disk.old disk.new }
+    ensures fits { IfOk result (Fits (expect_given lo hi source.now.copied.vertices
+        (length source.now.copied.labels) (normal_form source.now.normal).fresh)) }
+    ensures given { IsTrue D.tells → IfOk result
+        (λ p. AreGiven (normal_form source.now.normal) (graph_in source.now (D.seen disk.old)) lo hi p.edges) }
+    ensures looks { OnlyLooks D.Disk disk.old disk.new }
     ensures later { D.faults disk.old ≤ D.faults disk.new }
     ensures cause { HasDiskCause (D.faults disk.old) (D.faults disk.new) (blames_copy (IsTrue D.tells)) result }
 {
@@ -75,7 +76,7 @@ fn put_next<D: Disk>(
     requires built { IsBuilt source.now intervals.now (IsTrue D.tells) (D.seen disk.old) i tables.old }
     ensures built { OnOk result (IsBuilt source.now intervals.now (IsTrue D.tells) (D.seen disk.new) (i + 1) tables.new) }
     ensures texts { IsTrue D.tells → OnOk result (SameTexts (D.seen disk.old) (D.seen disk.new)) }
-    ensures any_moment { LeavesOnly D.moment D.left_since disk.old disk.new (From (D.may_leave disk.old) IsBeside) }
+    ensures any_moment { LeavesBy D.Disk disk.old disk.new IsBeside }
     ensures later { D.faults disk.old ≤ D.faults disk.new }
     ensures cause { HasDiskCause (D.faults disk.old) (D.faults disk.new) (blames_copy (IsTrue D.tells)) result }
 {
@@ -99,7 +100,7 @@ pub(crate) fn put_parts<D: Disk>(
     requires may { MayPut source.now intervals.now (IsTrue D.tells) (D.seen disk.old) }
     ensures built { IfOk result (IsBuilt source.now intervals.now (IsTrue D.tells) (D.seen disk.new) (length intervals.now)) }
     ensures texts { IsTrue D.tells → IfOk result (λ _. SameTexts (D.seen disk.old) (D.seen disk.new)) }
-    ensures any_moment { LeavesOnly D.moment D.left_since disk.old disk.new (From (D.may_leave disk.old) IsBeside) }
+    ensures any_moment { LeavesBy D.Disk disk.old disk.new IsBeside }
     ensures later { D.faults disk.old ≤ D.faults disk.new }
     ensures cause { HasDiskCause (D.faults disk.old) (D.faults disk.new) (blames_copy (IsTrue D.tells)) result }
 {

@@ -1,6 +1,7 @@
 //! All that a new store has but the slot of its manifest.
 ghost use Rattle.std.specs.Prelude.{◌≡◌, ◌≤◌, ℕ, List, None, IsTrue, IfOk, IfErr};
-ghost use Rattle.disk_model.specs.Crash.{LeavesOnly, From};
+ghost use Rattle.io_edge.specs.View.{NoCountFalls};
+ghost use Rattle.disk_model.specs.View.{LeavesBy};
 ghost use Rattle.grammar_norm.specs.GrammarText.{grammar_fault};
 ghost use Rattle.store.specs.Import.{HasImportCause};
 ghost use Rattle.store.specs.Making.{IsBeside, IsFirst, IsPrepared};
@@ -13,7 +14,7 @@ use grammar_norm::Normal;
 use import_text::copies_are_good;
 use intervals::Intervals;
 use io_edge::Inputs;
-use manifest::Manifest;
+use manifest_codec::Manifest;
 use open_store::StoreFault;
 use pair_sched::Marks;
 use std::alloc::{AllocError, Global};
@@ -56,10 +57,11 @@ pub(crate) fn prepare<I: Inputs, D: Disk>(
 ) -> Result<Prepared, StoreFault>
     requires { grammar_fault grammar.now ≡ None }
     ensures prepared { IfOk result (IsPrepared grammar.now (I.told inputs.old edges.now) limit (IsTrue D.tells) (D.seen disk.new)) }
-    ensures any_moment { LeavesOnly D.moment D.left_since disk.old disk.new (From (D.may_leave disk.old) IsBeside) }
-    ensures cause { IfErr result (HasImportCause grammar.now (I.told inputs.old edges.now) (IsTrue D.tells) (I.faults inputs.old edges.now) (I.faults inputs.new edges.now) (D.faults disk.old) (D.faults disk.new)) }
+    ensures any_moment { LeavesBy D.Disk disk.old disk.new IsBeside }
+    ensures cause { IfErr result (HasImportCause grammar.now (I.told inputs.old edges.now) (IsTrue D.tells)
+        (I.faults inputs.old edges.now) (I.faults inputs.new edges.now) (D.faults disk.old) (D.faults disk.new)) }
     ensures kept { I.told inputs.new ≡ I.told inputs.old }
-    ensures others { (other : List ℕ) → I.faults inputs.old other ≤ I.faults inputs.new other }
+    ensures others { NoCountFalls I.Inputs inputs.old inputs.new }
     ensures later { D.faults disk.old ≤ D.faults disk.new }
 {
     copies_are_good();

@@ -1,6 +1,7 @@
 //! The two texts of a store are read, checked and copied to the disk.
 ghost use Rattle.std.specs.Prelude.{◌≡◌, ◌≤◌, ℕ, List, None, IsTrue, IfOk, IfErr};
-ghost use Rattle.disk_model.specs.Crash.{LeavesOnly, From};
+ghost use Rattle.io_edge.specs.View.{NoCountFalls};
+ghost use Rattle.disk_model.specs.View.{LeavesBy};
 ghost use Rattle.grammar_norm.specs.GrammarText.{ReadsGrammar, grammar_fault};
 ghost use Rattle.open_store.specs.declared.fault.StoreFault.TheVariants.{NoMemory};
 ghost use Rattle.store.specs.Import.{HasImportCause};
@@ -72,10 +73,11 @@ pub(crate) fn copy_texts<I: Inputs, D: Disk>(
 ) -> Result<Source, StoreFault>
     requires { grammar_fault grammar.now ≡ None }
     ensures source { IfOk result (IsSource grammar.now (I.told inputs.old edges.now) (IsTrue D.tells) (D.seen disk.new)) }
-    ensures any_moment { LeavesOnly D.moment D.left_since disk.old disk.new (From (D.may_leave disk.old) IsBeside) }
-    ensures cause { IfErr result (HasImportCause grammar.now (I.told inputs.old edges.now) (IsTrue D.tells) (I.faults inputs.old edges.now) (I.faults inputs.new edges.now) (D.faults disk.old) (D.faults disk.new)) }
+    ensures any_moment { LeavesBy D.Disk disk.old disk.new IsBeside }
+    ensures cause { IfErr result (HasImportCause grammar.now (I.told inputs.old edges.now) (IsTrue D.tells)
+        (I.faults inputs.old edges.now) (I.faults inputs.new edges.now) (D.faults disk.old) (D.faults disk.new)) }
     ensures kept { I.told inputs.new ≡ I.told inputs.old }
-    ensures others { (other : List ℕ) → I.faults inputs.old other ≤ I.faults inputs.new other }
+    ensures others { NoCountFalls I.Inputs inputs.old inputs.new }
     ensures later { D.faults disk.old ≤ D.faults disk.new }
 {
     let (rules, names) = read_good(alloc, grammar)?;

@@ -14,8 +14,8 @@ use Rattle.closing_machine.proofs.Telling.{finished_told}
 use Rattle.disk_model.specs.Disk.{Contents}
 use Rattle.dest_map.specs.Table.{counts_of}
 use Rattle.pair_sched.specs.Marks.{joined_of, newest_of}
-use Rattle.manifest.specs.declared.types.PartEntry.{PartEntry}
-use Rattle.manifest.specs.declared.types.Manifest.{Manifest}
+use Rattle.manifest_codec.specs.declared.types.PartEntry.{PartEntry}
+use Rattle.manifest_codec.specs.declared.types.Manifest.{Manifest}
 use Rattle.store_law.specs.Texts.{Texts, graph, normal}
 use Rattle.store_law.specs.Listed.{AreExact, Lists, ends_of, state_in}
 use Rattle.store_law.specs.Left.{IsDone, IsStore}

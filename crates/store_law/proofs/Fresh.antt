@@ -15,8 +15,8 @@ use Rattle.closing_machine.proofs.Partitions.{all_where_one, filter_partitions}
 use Rattle.disk_model.specs.Disk.{Contents}
 use Rattle.intervals.specs.DegreeCut.{IsCutByDegree}
 use Rattle.intervals.proofs.DegreeLemmas.{one_cut}
-use Rattle.manifest.specs.declared.types.PartEntry.{PartEntry}
-use Rattle.manifest.specs.declared.types.Manifest.{Manifest}
+use Rattle.manifest_codec.specs.declared.types.PartEntry.{PartEntry}
+use Rattle.manifest_codec.specs.declared.types.Manifest.{Manifest}
 use Rattle.store_law.specs.Texts.{Texts, graph, normal}
 use Rattle.store_law.specs.Listed.{ends_of, state_in}
 use Rattle.store_law.specs.Imported.{AreDegrees, IsFresh}

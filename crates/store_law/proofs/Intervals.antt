@@ -6,9 +6,9 @@ use Rattle.graph_words.specs.declared.types.Born.{Born}
 use Rattle.closing_machine.specs.State.{IsCut}
 use Rattle.closing_machine.specs.Parts.{ArePartitions, IsPartition}
 use Rattle.disk_model.specs.Disk.{Contents}
-use Rattle.manifest.specs.declared.types.PartEntry.{PartEntry}
-use Rattle.manifest.specs.declared.types.Manifest.{Manifest}
-use Rattle.manifest.specs.Spelling.{Cover}
+use Rattle.manifest_codec.specs.declared.types.PartEntry.{PartEntry}
+use Rattle.manifest_codec.specs.declared.types.Manifest.{Manifest}
+use Rattle.manifest_codec.specs.Spelling.{Cover}
 use Rattle.store_law.specs.Listed.{AreListed, ends_of}
 
 pub cut_from_cover : (top from : ℕ) (parts : List PartEntry) → Cover top from parts → IsCut from (map (λ p. p.hi) parts) top

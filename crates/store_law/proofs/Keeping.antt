@@ -6,9 +6,9 @@ use Rattle.graph_words.specs.declared.types.Born.{Born}
 use Rattle.closing_machine.proofs.Running.{opening_holds}
 use Rattle.disk_model.specs.Disk.{Contents}
 use Rattle.partition_file.specs.Spelling.{Spells}
-use Rattle.manifest.specs.declared.types.PartEntry.{PartEntry}
-use Rattle.manifest.specs.declared.types.Manifest.{Manifest}
-use Rattle.manifest.specs.Spelling.{Fits}
+use Rattle.manifest_codec.specs.declared.types.PartEntry.{PartEntry}
+use Rattle.manifest_codec.specs.declared.types.Manifest.{Manifest}
+use Rattle.manifest_codec.specs.Spelling.{Fits}
 use Rattle.manifest_switch.specs.declared.slot.Slot.{Slot}
 use Rattle.manifest_switch.specs.declared.slot.Slot.TheVariants.{Zero}
 use Rattle.manifest_switch.specs.declared.slot.Found.TheVariants.{At}

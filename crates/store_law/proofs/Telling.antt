@@ -7,8 +7,8 @@ use Rattle.closing_machine.specs.State.{IsCut}
 use Rattle.disk_model.specs.Disk.{Contents}
 use Rattle.partition_file.specs.Spelling.{IsExpect, Part}
 use Rattle.partition_file.proofs.FileLaws.{one_part}
-use Rattle.manifest.specs.declared.types.Manifest.{Manifest}
-use Rattle.manifest.specs.Spelling.{Fits}
+use Rattle.manifest_codec.specs.declared.types.Manifest.{Manifest}
+use Rattle.manifest_codec.specs.Spelling.{Fits}
 use Rattle.store_law.specs.Listed.{AreListed, ends_of, expect_of, part_of}
 use Rattle.store_law.proofs.Intervals.{cut_from_cover}
 

@@ -1,7 +1,7 @@
 -- Steps that stores survive.
 use Rattle.std.specs.Prelude.{◌≡◌, ◌≢◌, ℕ, ◌<◌, ◌≤◌, All, length, take}
 use Rattle.disk_model.specs.Disk.{Contents}
-use Rattle.manifest.specs.declared.types.Manifest.{Manifest}
+use Rattle.manifest_codec.specs.declared.types.Manifest.{Manifest}
 use Rattle.store_law.specs.Listed.{part_file}
 
 -- the file is neither a slot nor a copy of a text, and the manifest names it for no partition

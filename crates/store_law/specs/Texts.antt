@@ -42,7 +42,8 @@ edges_text t = joined_text t.files
 -- none of the next texts has a fault, each counted behind the bytes and the names of the text before it
 abbrev pub AreGoodBehind : List (List ℕ) → List ℕ → List (List ℕ) → Type 0
 AreGoodBehind names text [] = Unit {0}
-AreGoodBehind names text (next ∷ rest) = (edges_fault (length (ended text)) (names ++ flat_map third (said (lines text))) next ≡ None) × AreGoodBehind names (with_next text next) rest
+AreGoodBehind names text (next ∷ rest) = (edges_fault (length (ended text))
+    (names ++ flat_map third (said (lines text))) next ≡ None) × AreGoodBehind names (with_next text next) rest
 
 -- no text has a fault, each counted behind those before it
 abbrev pub AreGoodInTurn : List (List ℕ) → List (List ℕ) → Type 0

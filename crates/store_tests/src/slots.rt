@@ -1,7 +1,7 @@
 //! The two slots of a manifest.
 use crate::fixtures::SLOT;
 use disk_model::{Disk, FormKind, MemDisk};
-use manifest_switch::{Found, OpenFault, Slot, current};
+use manifest::{Found, OpenFault, Slot, current};
 use std::alloc::Global;
 use std::test::Fail;
 

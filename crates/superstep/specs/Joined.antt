@@ -7,7 +7,8 @@ use Rattle.closing_machine.specs.Rounds.{HasEdge, IsJoin}
 
 -- each join of two edges that are both born before since
 abbrev pub AreJoinedBelow : Normal → List Born → ℕ → Type 0
-AreJoinedBelow n edges since = (x y : Born) (e : Edge) → Contains edges x → Contains edges y → x.birth < since → y.birth < since → IsJoin n x.edge y.edge e → HasEdge edges e
+AreJoinedBelow n edges since = (x y : Born) (e : Edge) → Contains edges x → Contains edges y → x.birth < since
+    → y.birth < since → IsJoin n x.edge y.edge e → HasEdge edges e
 
 -- each join of two edges
 abbrev pub AreJoined : Normal → List Born → Type 0

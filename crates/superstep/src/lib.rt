@@ -50,7 +50,9 @@ pub fn run_pair(
 ) -> Result<PairEnd, AllocError>
     requires format { All IsInFormat rows.old.edges }
     requires room { birth + (capacity_of rows.old - length rows.old.edges) < 2 ^ 64 }
-    ensures run { IfOk result (λ end. (budget : ℕ) → length rows.new.edges ≤ budget → IsPairRun (normal_form normal.now) rows.old.edges since birth budget (is_closed end) (rounds_of end) rows.new.edges) }
+    ensures run { IfOk result (λ end. (budget : ℕ) → length rows.new.edges ≤ budget
+        → IsPairRun (normal_form normal.now) rows.old.edges since birth budget (is_closed end)
+        (rounds_of end) rows.new.edges) }
     ensures closed { OnOk result (AreJoinedBelow (normal_form normal.now) rows.old.edges since → AreJoined (normal_form normal.now) rows.new.edges) }
     ensures format { All IsInFormat rows.new.edges }
     ensures low { rows.new.low ≡ rows.old.low }

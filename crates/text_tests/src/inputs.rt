@@ -2,7 +2,7 @@
 use crate::fixtures::named;
 use io_edge::{
     Failed, Inputs, MemInputs, MemSink, NamedBytes, NullSink, ReadFault, Sink, SureInputs,
-    WriteSink, read_whole, write_line,
+    OutSink, read_whole, write_line,
 };
 use std::alloc::{AllocError, Global};
 use std::test::Fail;
@@ -73,7 +73,7 @@ fn a_write_that_fails_in_mid_stream_is_told(rt: HostRuntime) -> Result<(), Fail>
 #[test]
 fn a_full_writer_is_a_failed_write(rt: HostRuntime) -> Result<(), Fail> {
     let mut room = [0; 4];
-    let mut sink = WriteSink::new(&mut room[..]);
+    let mut sink = OutSink::new(&mut room[..]);
     write_line(&mut sink, b"ab")?;
     assert_eq!(rt; write_line(&mut sink, b"cd"), Err(Failed));
     assert_eq!(rt; &room[..], b"ab\nc".as_slice());

@@ -87,12 +87,12 @@ fn edges_may_be_taken_away_between_pieces(rt: HostRuntime) -> Result<(), Fail> {
     let alloc = rt.alloc();
     let mut reader = EdgeReader::new(alloc, LabelTable::new(alloc), 0)?;
     let mut edges = Vec::new(alloc);
-    reader.feed(alloc, b"0 1 a\n1 ", &mut edges)?;
+    reader.feed(b"0 1 a\n1 ", &mut edges)?;
     assert_eq!(rt; edges.len(), 1);
     edges.clear();
-    reader.feed(alloc, b"2 b\n3 4 a", &mut edges)?;
+    reader.feed(b"2 b\n3 4 a", &mut edges)?;
     assert_eq!(rt; edges.len(), 1);
-    reader.finish(alloc, &mut edges)?;
+    reader.finish(&mut edges)?;
     assert_eq!(rt; edges.len(), 2);
     let last = edges[1];
     assert!(rt; (last.src.0, last.label.0, last.dst.0) == (3, 0, 4));

@@ -1,9 +1,9 @@
 //! The bytes of manifests.
 ghost use Rattle.std.specs.Prelude.{IfOk};
-ghost use Rattle.manifest.specs.Spelling.{Fits};
+ghost use Rattle.manifest_codec.specs.Spelling.{Fits};
 
 use disk_model::FormKind;
-use manifest::{Manifest, ManifestError, PartEntry, decode, encode};
+use manifest_codec::{Manifest, ManifestError, PartEntry, decode, encode};
 use std::alloc::{AllocError, Global};
 use std::test::Fail;
 

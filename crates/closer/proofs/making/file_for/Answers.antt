@@ -1,6 +1,6 @@
 use Rattle.std.proofs.Common.{◌∙◌, ap, arith, length, map, take, List}
 use Rattle.std.proofs.lemmas.List.{take_all}
-use Rattle.manifest.specs.declared.types.PartEntry.{PartEntry}
+use Rattle.manifest_codec.specs.declared.types.PartEntry.{PartEntry}
 use Rattle.closer.proofs.PutLemmas.{files_untaken}
 use Rattle.closer.proofs.making.file_for.Goals as goal
 

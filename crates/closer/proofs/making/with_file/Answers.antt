@@ -1,6 +1,6 @@
 use Rattle.std.proofs.Common.{◌∙◌, ap, get_or, List, refl}
 use Rattle.disk_model.specs.Run.{if_ok}
-use Rattle.manifest.specs.declared.types.PartEntry.{PartEntry}
+use Rattle.manifest_codec.specs.declared.types.PartEntry.{PartEntry}
 use Rattle.closer.specs.Making.{Refiles}
 use Rattle.closer.proofs.PutLemmas.{refiles_set}
 use Rattle.closer.proofs.making.with_file.Goals as goal

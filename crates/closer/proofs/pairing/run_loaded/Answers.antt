@@ -2,7 +2,7 @@ use Rattle.std.proofs.Common.{◌∙◌, ◌-◌, List, ap, sym, subst, length, 
 use Rattle.std.specs.Prelude.{All}
 use Rattle.graph_words.specs.declared.types.Rule.{Rule}
 use Rattle.normal_law.specs.NormalForm.{normal_form}
-use Rattle.manifest.specs.declared.types.Manifest.{Manifest}
+use Rattle.manifest_codec.specs.declared.types.Manifest.{Manifest}
 use Rattle.row_table.specs.Loaded.{Loaded}
 use Rattle.superstep.specs.Room.{IsInFormat, capacity_of}
 use Rattle.closer.proofs.Rooming.{are_run, format, room, run_moved, stands}

@@ -1,7 +1,7 @@
 use Rattle.std.proofs.Common.{◌≤◌, ◌∙◌, ap, sym, subst, refl, List, ℕ}
 use Rattle.std.specs.Prelude.{Contains}
 use Rattle.graph_words.specs.declared.types.Born.{Born}
-use Rattle.manifest.specs.declared.types.Manifest.{Manifest}
+use Rattle.manifest_codec.specs.declared.types.Manifest.{Manifest}
 use Rattle.open_store.specs.Streaming.{IsTally}
 use Rattle.closer.proofs.Images.{one_file}
 use Rattle.closer.proofs.PutLemmas.{puts_new, rises, takes_new}

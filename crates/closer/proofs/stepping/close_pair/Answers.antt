@@ -1,6 +1,6 @@
 use Rattle.std.proofs.Common.{◌≤◌, arith, sym, subst}
 use Rattle.disk_model.specs.Disk.{Contents}
-use Rattle.manifest.specs.declared.types.Manifest.{Manifest}
+use Rattle.manifest_codec.specs.declared.types.Manifest.{Manifest}
 use Rattle.disk_model.specs.Run.{if_ok}
 use Rattle.open_store.proofs.Causes.{handed}
 use Rattle.closer.specs.Making.{ArePut, IsLeastMarkIn, IsNext, MayPutPair}

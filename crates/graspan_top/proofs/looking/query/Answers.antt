@@ -2,7 +2,7 @@ use Rattle.std.proofs.Common.{◌≡◌, Some, inl, subst}
 use Rattle.std.specs.Prelude.{Contains, slice_get}
 use Rattle.disk_model.specs.Disk.{Rose as DiskRose}
 use Rattle.io_edge.specs.Devices.{Rose}
-use Rattle.manifest.specs.declared.types.Manifest.{Manifest}
+use Rattle.manifest_codec.specs.declared.types.Manifest.{Manifest}
 use Rattle.open_store.proofs.Looking.{looks_then}
 use Rattle.graspan_top.specs.Given.{Given}
 use Rattle.graspan_top.specs.Looking.{AreVerticesOf, IsKnownIn, IsQueryText, IsUnfinished, IsUnknownIn, wants_one}

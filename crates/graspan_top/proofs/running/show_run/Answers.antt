@@ -4,7 +4,7 @@ use Rattle.io_edge.specs.Devices.{AppendsPrefix}
 use Rattle.graspan_top.specs.Faults.{of_answer}
 use Rattle.graspan_top.specs.Printing.{IsNothingOr, PrintsFirst}
 use Rattle.graph_words.specs.declared.types.Born.{Born}
-use Rattle.manifest.specs.declared.types.Manifest.{Manifest}
+use Rattle.manifest_codec.specs.declared.types.Manifest.{Manifest}
 use Rattle.graspan_top.specs.Stages.{shown_text}
 use Rattle.graspan_top.specs.Run.{IsRunBegun, IsRunText, IsShownText}
 use Rattle.graspan_top.proofs.LookLemmas.{status_at}

@@ -1,12 +1,12 @@
 use Rattle.std.proofs.Common.{◌≡◌, drop, take, subst}
 use Rattle.disk_model.specs.Disk.{Contents}
 use Rattle.std.specs.Prelude.{Result, Ok, Err}
-use Rattle.manifest.specs.declared.types.Manifest.{Manifest}
-use Rattle.manifest.specs.declared.types.ManifestFault.{ManifestFault}
+use Rattle.manifest_codec.specs.declared.types.Manifest.{Manifest}
+use Rattle.manifest_codec.specs.declared.types.ManifestFault.{ManifestFault}
 use Rattle.manifest_switch.specs.declared.slot.OpenFault.{OpenFault}
 use Rattle.manifest_switch.specs.declared.slot.OpenFault.TheVariants.{DiskFault, BadStore, NoMemory}
 use Rattle.manifest_switch.specs.Answers.{Gives}
-use Rattle.manifest.specs.Reading.{reading}
+use Rattle.manifest_codec.specs.Reading.{reading}
 use Rattle.manifest_switch.specs.Slots.{file_of, value_of}
 use Rattle.manifest_switch.proofs.CodecLemmas.{settled, whole_body}
 use Rattle.manifest_switch.proofs.reading.body_of.Goals as goal

@@ -2,7 +2,7 @@ use Rattle.std.proofs.Common.{◌≡◌, ◌∙◌, ap, sym, subst, take, ℕ, L
 use Rattle.std.specs.Prelude.{map}
 use Rattle.std.proofs.lemmas.List.{take_all}
 use Rattle.intervals.specs.Bounds.{IsCut}
-use Rattle.manifest.specs.declared.types.PartEntry.{PartEntry}
+use Rattle.manifest_codec.specs.declared.types.PartEntry.{PartEntry}
 use Rattle.open_store.proofs.Places.{cut_of_cover}
 use Rattle.open_store.proofs.committing.intervals_of.Goals as goal
 

@@ -2,7 +2,7 @@ use Rattle.std.proofs.Common.{◌≡◌, ◌≢◌, ◌<◌, ◌≤◌, ◌+◌,
 use Rattle.std.specs.Prelude.{Bool, true, false, Ok, Err, IsTrue, Result, Option, Some, None}
 use Rattle.io_edge.specs.Devices.{Gives}
 use Rattle.disk_model.specs.Disk.{Contents}
-use Rattle.manifest_switch.specs.Looks.{OnlyLooks}
+use Rattle.disk_model.specs.Looks.{Looks}
 use Rattle.open_store.specs.Answers.{DiffersFirst}
 use Rattle.open_store.proofs.Looking.{looks_same, looks_then}
 use Rattle.open_store.proofs.Differences.{copy_is_shorter, differs_at, same_further, same_whole, text_ended, text_is_shorter}

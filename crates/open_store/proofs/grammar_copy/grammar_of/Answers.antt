@@ -3,7 +3,7 @@ use Rattle.disk_model.specs.declared.form_kind.FormKind.TheVariants.{BadLabel, B
 use Rattle.std.specs.Prelude.{Err}
 use Rattle.grammar_norm.specs.declared.grammar.GrammarFault.{GrammarFault}
 use Rattle.grammar_norm.specs.GrammarText.{ReadsGrammar, grammar_fault}
-use Rattle.manifest.specs.Rules.{labels_place, newest_version}
+use Rattle.manifest_codec.specs.Rules.{labels_place, newest_version}
 use Rattle.manifest_switch.specs.Slots.{file_of}
 use Rattle.open_store.specs.Copy.{IsBadCopy}
 use Rattle.open_store.proofs.Causes.{handed}

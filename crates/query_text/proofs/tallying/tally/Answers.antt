@@ -2,7 +2,7 @@ use Rattle.std.proofs.Common.{ℕ, List, [], length, sym, subst, arith}
 use Rattle.graph_words.specs.declared.types.Born.{Born}
 use Rattle.io_edge.specs.Devices.{Takes}
 use Rattle.closing_machine.specs.Parts.{all_edges}
-use Rattle.manifest.specs.declared.types.Manifest.{Manifest}
+use Rattle.manifest_codec.specs.declared.types.Manifest.{Manifest}
 use Rattle.query_text.specs.Text.{tally_text}
 use Rattle.query_text.specs.Shown.{AreTallied}
 use Rattle.query_text.proofs.Listed.{read_all}

@@ -2,7 +2,7 @@ use Rattle.std.proofs.Common.{◌≡◌, ◌≤◌, ◌-◌, ℕ, List, []}
 use Rattle.std.specs.Prelude.{◌++◌}
 use Rattle.graph_words.specs.declared.types.Born.{Born}
 use Rattle.store_law.specs.Listed.{part_file}
-use Rattle.manifest_switch.specs.Looks.{OnlyLooks}
+use Rattle.disk_model.specs.Looks.{Looks}
 use Rattle.open_store.specs.Reading.{count_below_of}
 use Rattle.open_store.specs.Store.{expect_in}
 use Rattle.open_store.specs.Streaming.{IsAt, IsStream, IsTally}
@@ -17,7 +17,7 @@ invariant-loop-tally g l =
       number : l.stream.file ≡ part_file l.self.manifest l.j;
       none : l.edges.items ≡ [];
       at : (bytes : List ℕ) × (given : List Born) × IsAt (expect_in l.self l.j) D.tells file bytes given l.stream × IsTally l.self.ends given l.tally.row.items l.tally.newest × (l.below ≡ count_below_of l.self.ends l.i l.at given);
-      looks : OnlyLooks D.seen D.may_leave D.moment D.left_since l.fn.disk l.disk;
+      looks : Looks D.seen D.may_leave D.moment D.left_since l.fn.disk l.disk;
       later : D.faults l.fn.disk ≤ D.faults l.disk;
     }
 

@@ -1,6 +1,6 @@
 use Rattle.std.proofs.Common.{◌≡◌, ◌<◌, ◌≤◌, ◌+◌, ℕ, List, length, ap, sym, subst, ◌∙◌, arith, inl, inr}
 use Rattle.std.proofs.lemmas.Bool.{cases_lt}
-use Rattle.manifest.specs.declared.types.PartEntry.{PartEntry}
+use Rattle.manifest_codec.specs.declared.types.PartEntry.{PartEntry}
 use Rattle.open_store.specs.Free.{IsUsed}
 use Rattle.open_store.specs.Store.{OpenStore}
 use Rattle.open_store.proofs.Freeness.{one_more_used, used_few}

@@ -1,6 +1,0 @@
-use Rattle.std.proofs.Common.{◌≡◌, ◌≤◌, ◌-◌, [], length}
-use Rattle.manifest.specs.Reading.{labels_at}
-use Rattle.manifest.proofs.labels.labels_of.Given as goal
-
-abbrev pub invariant-loop : goal.invariant-loop
-invariant-loop l = (labels_at (l.count - l.counter) l.labels l.rest ≡ labels_at l.count [] l.bytes) × (length l.labels ≤ l.counter)

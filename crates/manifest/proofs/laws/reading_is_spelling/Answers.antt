@@ -1,5 +1,0 @@
-use Rattle.manifest.proofs.Facts.{reading_is_spelling}
-use Rattle.manifest.proofs.laws.reading_is_spelling.Goals as goal
-
-pub returns : goal.returns
-returns c = reading_is_spelling

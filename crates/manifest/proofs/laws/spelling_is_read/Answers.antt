@@ -1,5 +1,0 @@
-use Rattle.manifest.proofs.Facts.{spelling_is_read}
-use Rattle.manifest.proofs.laws.spelling_is_read.Goals as goal
-
-pub returns : goal.returns
-returns c = spelling_is_read

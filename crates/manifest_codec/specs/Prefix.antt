@@ -1,0 +1,15 @@
+-- What bytes say is settled once they don't end within a field.
+use Rattle.std.specs.Prelude.{◌≡◌, ◌⊎◌, ℕ, List, ◌++◌, Result, Ok, Err}
+use Rattle.disk_model.specs.declared.form_kind.FormKind.TheVariants.{Short}
+use Rattle.manifest_codec.specs.declared.types.Manifest.{Manifest}
+use Rattle.manifest_codec.specs.declared.types.ManifestFault.{ManifestFault}
+use Rattle.manifest_codec.specs.Reading.{reading}
+
+-- the bytes end within a field
+abbrev pub IsCut : Result (Manifest × ℕ) ManifestFault → Type 0
+IsCut (Ok x) = ⊥
+IsCut (Err f) = f.kind ≡ Short
+
+-- the bytes end within a field, or whatever stands behind them changes nothing
+abbrev pub Settles : List ℕ → List ℕ → Type 0
+Settles bytes behind = IsCut (reading bytes) ⊎ (reading (bytes ++ behind) ≡ reading bytes)

@@ -1,0 +1,22 @@
+//! A store's manifest as bytes: what it says of its texts, labels, partitions, counts and marks.
+#![tactic(auto)]
+
+mod cells;
+mod decoding;
+mod encoding;
+mod fields;
+mod labels;
+mod laws;
+mod parts;
+mod prefix_law;
+mod types;
+
+pub use decoding::decode;
+pub use encoding::encode;
+pub use fields::labels_place;
+pub use laws::{
+    encode_then_decode, has_bytes, longest_spelling, magics_are_spelled, no_shared_spelling,
+    reading_is_spelling, spelling_is_read,
+};
+pub use prefix_law::more_bytes_change_nothing;
+pub use types::{Manifest, ManifestError, ManifestFault, PartEntry, PartList, Version};
