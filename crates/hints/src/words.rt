@@ -41,11 +41,11 @@ fn is_one_of(word: &str, known: &[&str]) -> bool {
 fn value_behind<'a>(words: &'a WordList, at: usize) -> Option<&'a str>
     requires { at < length words.now }
 {
-    let count = words.len();
-    if count - at < 2 {
+    let next = at.checked_add(1)?;
+    if next >= words.len() {
         return None;
     }
-    let value = words.get(at + 1);
+    let value = words.get(next);
     if is_dashed(value) { None } else { Some(value) }
 }
 
