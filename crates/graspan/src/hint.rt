@@ -8,6 +8,7 @@ use hints::{Fault, sentence};
 use io_edge::{InputFile, InputKind, WordList};
 use std::alloc::Global;
 use std::rt::Files;
+use std::time::Clock;
 
 /// Prints one sentence of a fault. Where standard error can't be written the program goes on.
 pub(crate) fn print_hint<R: Eprint>(rt: &R, fault: Fault<'_>) {
@@ -25,7 +26,7 @@ fn name_of<'a>(alloc: Global, words: &'a WordList, file: InputFile) -> &'a str {
 }
 
 // A line of a file has a fault. Its text is read again.
-fn input_hint<R: Files + Eprint + AllocGlobal>(
+fn input_hint<R: Files + AllocGlobal + Clock + Eprint>(
     rt: &R,
     words: &WordList,
     inputs: &mut FsInputs<'_, R>,
@@ -46,14 +47,19 @@ fn input_hint<R: Files + Eprint + AllocGlobal>(
 }
 
 // What the two objects say of a call that failed.
-fn read_fault<'a, R: Files + AllocGlobal>(inputs: &'a FsInputs<'_, R>) -> Fault<'a> {
+fn read_fault<'a, R: Files + AllocGlobal + Clock + Eprint>(
+    inputs: &'a FsInputs<'_, R>,
+) -> Fault<'a> {
     Fault::Read {
         name: inputs.failed_name(),
         reason: inputs.reason().kind(),
     }
 }
 
-fn disk_fault<'a, R: Files + AllocGlobal>(folder: &'a str, disk: &FsDisk<'_, R>) -> Fault<'a> {
+fn disk_fault<'a, R: Files + AllocGlobal + Clock + Eprint>(
+    folder: &'a str,
+    disk: &FsDisk<'_, R>,
+) -> Fault<'a> {
     let reason = disk.reason().kind();
     if disk.is_there() {
         Fault::Disk { folder, reason }
@@ -63,7 +69,7 @@ fn disk_fault<'a, R: Files + AllocGlobal>(folder: &'a str, disk: &FsDisk<'_, R>)
 }
 
 /// Tells a person how a command ended. Where it is done nothing is said.
-pub(crate) fn tell<R: Files + Eprint + AllocGlobal>(
+pub(crate) fn tell<R: Files + AllocGlobal + Clock + Eprint>(
     rt: &R,
     folder: &str,
     words: &WordList,
@@ -102,4 +108,12 @@ pub(crate) fn tell<R: Files + Eprint + AllocGlobal>(
         Status::NotKnown => Fault::NotKnown { folder, words },
     };
     print_hint(rt, fault);
+}
+
+/// The edges in memory that the words of a run allow.
+pub(crate) fn budget_of(alloc: Global, words: &WordList) -> Option<u64> {
+    match read_command(alloc, words) {
+        Ok(Command::Run { options, .. }) => Some(options.budget),
+        _ => None,
+    }
 }

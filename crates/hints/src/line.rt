@@ -121,6 +121,18 @@ impl Line {
         self.bytes(b"'");
     }
 
+    /// How many bytes it has.
+    pub fn len(&self) -> usize {
+        self.bytes.len()
+    }
+
+    /// Spaces, up to this length. Where it is as long already nothing changes.
+    pub fn pad(&mut self, len: usize) {
+        for _ in self.bytes.len()..len.min(ROOM) {
+            self.push(b' ');
+        }
+    }
+
     /// A path, shortened to 200 bytes.
     pub fn path(&mut self, path: &str) {
         self.front(path.as_bytes(), PATH_SHOWN);
