@@ -4,7 +4,7 @@ ghost use Rattle.std.specs.Prelude.{◌≡◌, ◌+◌, ◌<◌, ◌≤◌, ◌^
 use crate::failure::Reason;
 use crate::progress::Progress;
 use io_edge::{Failed, Inputs};
-use std::fs::File;
+use std::fs::{File, OpenFile as _};
 use std::io;
 use std::io::{ErrorKind, Read, Seek, SeekFrom};
 use std::rt::Files;
