@@ -11,6 +11,8 @@ mod hint;
 mod line_text;
 mod progress;
 #[cfg(test)]
+mod sentences;
+#[cfg(test)]
 mod tests;
 mod words;
 
