@@ -2,7 +2,7 @@
 """Turns textual LLVM IR into an edge file for graspan.
 
   clang -S -emit-llvm -O0 -g -c FILE.c -o FILE.ll
-  llvm_edges.py [--for alias|null|dataflow] FILE.ll.. > program.edges
+  llvm_edges.py [--for alias|null|dataflow] [--fields one|named] FILE.ll.. > program.edges
 
 The files are taken as one program: what isn't internal to a file is linked by its name. A vertex is the value of a
 register, a parameter, a result, or the address of a variable or function; for each pointer that is read or written
@@ -14,9 +14,11 @@ through there is a vertex for what it points to. The labels:
 
 '-a', '-d' and '-n' are their inverses (not for dataflow). The comment '# K NAME' gives vertex K its name.
 
-It is no sound analysis of C: fields and array elements aren't told apart, numbers that are pointers aren't followed,
-and calls through pointers and to functions without a body are left out. What is left out is counted and printed on
-standard error at the end. Works for typed and for opaque pointers.
+It is no sound analysis of C: the fields and elements of a value aren't told apart (address arithmetic is a copy),
+numbers that are pointers aren't followed, and calls through pointers and to functions without a body are left out.
+With '--fields named' a field of a struct is one variable for all values of that struct, so two fields are told apart
+and two values aren't: the graph of a large program then has a much smaller closure. What is left out is counted and
+printed on standard error at the end. Works for typed and for opaque pointers.
 """
 import argparse
 import os
@@ -90,8 +92,9 @@ def pointee_text(text):
 class Program:
     """The modules of a program, linked by name."""
 
-    def __init__(self, modules, kind):
+    def __init__(self, modules, kind, fields='one'):
         self.graph, self.left_out, self.modules = Graph(kind), Counter(), modules
+        self.has_named_fields = fields == 'named'
         self.bodies = {}
         for module in modules:
             for function in module.functions:
@@ -230,12 +233,21 @@ class Body:
         base = self.text_of(parts[1]) or '?'
         fields = self.module.fields(parts[0].split()[-1]) if len(parts) > 3 else []
         last = parts[3].split()[-1] if len(parts) > 3 else ''
+        if self.program.has_named_fields and last.isdigit() and parts[0].split()[-1][:1] == '%':
+            self.named_field(result, parts[0].split()[-1], int(last), fields)
+            return
         if last.isdigit() and int(last) < len(fields):
             link = base + '.' if base.startswith('&') else '&%s->' % base
             text = link + fields[int(last)]
         else:
             text = ('' if base.startswith('&') else '&') + base + ('' if base.endswith('[..]') else '[..]')
         self.copy(result, [parts[1]], text)
+
+    def named_field(self, result, held, number, fields):
+        """The address of a field, which is the same for all values of the struct."""
+        name = fields[number] if number < len(fields) else str(number)
+        text = '&%s.%s' % (held.strip('%"').split('.', 1)[-1], name)
+        self.graph.flows(self.graph.vertex(('field', text), text), self.register(result, text))
 
     def step_phi(self, result, rest):
         held, values = split_type(rest)
@@ -316,11 +328,12 @@ class Body:
                 self.register(result, name + '()')
 
 
-def head(kind, paths, program):
+def head(given, program):
     graph = program.graph
+    fields = 'the fields of a value are one' if given.fields == 'one' else 'a field is one for all values of its struct'
     return ['llvm_edges.py: %d files of LLVM IR, for the %s grammar; %d vertices, %d edges' % (
-        len(paths), kind, len(graph.texts), len(dict.fromkeys(graph.edges))),
-        'It is no sound analysis of C: fields and elements are one, and some calls are left out.']
+        len(given.paths), given.kind, len(graph.texts), len(dict.fromkeys(graph.edges))),
+        'It is no sound analysis of C: %s, elements are one, and some calls are left out.' % fields]
 
 
 def report(program):
@@ -331,13 +344,16 @@ def report(program):
 def main(words):
     parser = argparse.ArgumentParser(description=__doc__, formatter_class=argparse.RawDescriptionHelpFormatter)
     parser.add_argument('--for', dest='kind', choices=['alias', 'null', 'dataflow'], default='alias')
+    parser.add_argument('--fields', choices=['one', 'named'], default='one')
     parser.add_argument('paths', nargs='+', metavar='FILE.ll')
     given = parser.parse_args(words)
     try:
         modules = [Module(path) for path in given.paths]
-        program = Program(modules, given.kind)
+        if not any(module.functions for module in modules):
+            raise NotUnderstood('%s:%d: the file ends, and it has no function' % (modules[0].path, modules[0].length))
+        program = Program(modules, given.kind, given.fields)
         program.run()
-        program.graph.write(sys.stdout, head(given.kind, given.paths, program))
+        program.graph.write(sys.stdout, head(given, program))
         sys.stdout.flush()
     except BrokenPipeError:
         os.dup2(os.open(os.devnull, os.O_WRONLY), sys.stdout.fileno())

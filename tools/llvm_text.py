@@ -162,8 +162,7 @@ class Module:
         at = 0
         while at < len(lines):
             at = self.top_level(lines, at)
-        if not self.functions:
-            raise NotUnderstood('%s:%d: the file ends, and it has no function' % (path, len(lines)))
+        self.length = len(lines)
 
     @staticmethod
     def read_metadata(lines):
@@ -247,8 +246,7 @@ class Module:
         return (self.path, name) if name in self.own else ('', name)
 
     def is_function(self, name):
-        return name in self.declares or any(name == function.name for function in self.functions[:0]) or \
-            name in self.function_names()
+        return name in self.declares or name in self.function_names()
 
     def function_names(self):
         if not hasattr(self, 'names'):

@@ -78,7 +78,7 @@ fn count_left(manifest: &Manifest) -> u64 {
 }
 
 // What a manifest says.
-fn heading(manifest: &Manifest) -> Heading {
+fn numbers_of(manifest: &Manifest) -> Heading {
     let counts = manifest.map.counts();
     let edges = sum_of(counts);
     let vertices = u64::from(manifest.vertices);
@@ -96,7 +96,7 @@ fn heading(manifest: &Manifest) -> Heading {
 /// What the body of a slot says, where it is a manifest and memory is there.
 pub(crate) fn heading_of(alloc: Global, body: &[u8]) -> Option<Heading> {
     match decode(alloc, body) {
-        Ok((manifest, _)) => Some(heading(&manifest)),
+        Ok((manifest, _)) => Some(numbers_of(&manifest)),
         Err(_) => None,
     }
 }
