@@ -11,15 +11,19 @@ import os
 import sys
 
 
-def names_of(path):
-    """The name of each vertex that has one."""
+def names_in(lines):
+    """The name of each vertex that lines of an edge file name."""
     names = {}
-    with open(path, encoding='utf-8', errors='surrogateescape') as file:
-        for line in file:
-            words = line.rstrip('\r\n').split(None, 2)
-            if len(words) == 3 and words[0] == '#' and words[1].isascii() and words[1].isdigit():
-                names[int(words[1])] = words[2]
+    for line in lines:
+        words = line.rstrip('\r\n').split(None, 2)
+        if len(words) == 3 and words[0] == '#' and words[1].isascii() and words[1].isdigit():
+            names[int(words[1])] = words[2]
     return names
+
+
+def names_of(path):
+    with open(path, encoding='utf-8', errors='surrogateescape') as file:
+        return names_in(file)
 
 
 def rewritten(line, names):
@@ -65,7 +69,7 @@ def main(words):
     except BrokenPipeError:
         os.dup2(os.open(os.devnull, os.O_WRONLY), sys.stdout.fileno())
     except OSError as fault:
-        sys.exit('graspan_names.py: %s' % fault)
+        sys.exit('graspan_names.py: %s: %s' % (fault.filename, fault.strerror))
 
 
 if __name__ == '__main__':

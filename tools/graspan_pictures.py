@@ -63,3 +63,8 @@ def dot(label, centre, arrows, names):
         lines.append('  %d [label=%s%s];' % (vertex, quoted(names.get(vertex, str(vertex))), style))
     lines += ['  %d -> %d [label=%s];' % (source, destination, quoted(label)) for source, destination in arrows]
     return '\n'.join(lines + ['}', ''])
+
+
+def write(path, text):
+    with open(path, 'w') as out:
+        out.write(text)

@@ -14,6 +14,7 @@ import struct
 import sys
 from collections import namedtuple
 
+import graspan_names
 import graspan_pictures
 
 Part = namedtuple('Part', 'number lo hi file newest')
@@ -21,7 +22,7 @@ FRESH = 1000  # labels are numbered from 0, fresh ones, which nothing prints, fr
 
 
 class Refused(Exception):
-    """The store can't be read; the text says where and why."""
+    """The store can't be read; the text says why."""
 
 
 class Bytes:
@@ -111,7 +112,7 @@ def edges(store, manifest, part):
     for source in range(part.lo, part.hi):
         last = None
         for label, destination, birth in struct.iter_unpack('<HIQ', file.take(14 * file.number(8))):
-            if (label >= len(manifest.labels) and label < FRESH) or destination >= manifest.vertices:
+            if len(manifest.labels) <= label < FRESH or destination >= manifest.vertices:
                 file.refuse('an edge of vertex %d has no such label or vertex' % source)
             if last is not None and (label, destination) <= last:
                 file.refuse("the edges of vertex %d don't ascend" % source)
@@ -128,8 +129,8 @@ def all_edges(store, manifest):
 
 def print_parts(store, manifest):
     print('vertices %d' % manifest.vertices)
-    for part in manifest.parts:
-        print('part %d %d %d %d' % (part.number, part.lo, part.hi, sum(manifest.counts[part.number])))
+    for part, row in zip(manifest.parts, manifest.counts):
+        print('part %d %d %d %d' % (part.number, part.lo, part.hi, sum(row)))
     print('unfinished %d %d' % manifest.work()[0] if manifest.work() else 'finished')
 
 
@@ -155,18 +156,13 @@ def label_number(manifest, name):
 
 
 def names_of(store, manifest):
-    """The names of vertices that comment lines '# K NAME' of the kept edge file give."""
-    names = {}
-    for line in Bytes(store, 3).bytes[:manifest.edges_length].decode('utf-8', 'replace').split('\n'):
-        words = line.split(None, 2)
-        if len(words) == 3 and words[0] == '#' and words[1].isdigit():
-            names[int(words[1])] = words[2]
-    return names
+    """The names of vertices that the kept edge file gives."""
+    text = Bytes(store, 3).bytes[:manifest.edges_length].decode('utf-8', 'replace')
+    return graspan_names.names_in(text.split('\n'))
 
 
 def write_svg(store, manifest, path):
-    with open(path, 'w') as out:
-        out.write(graspan_pictures.svg(manifest))
+    graspan_pictures.write(path, graspan_pictures.svg(manifest))
 
 
 def write_dot(store, manifest, label, vertex, path):
@@ -174,8 +170,7 @@ def write_dot(store, manifest, label, vertex, path):
     if centre >= manifest.vertices:
         raise Refused('there is no vertex %d; there are %d, from 0 on' % (centre, manifest.vertices))
     arrows = [(s, d) for s, l, d, _ in all_edges(store, manifest) if l == number and centre in (s, d)]
-    with open(path, 'w') as out:
-        out.write(graspan_pictures.dot(label, centre, arrows, names_of(store, manifest)))
+    graspan_pictures.write(path, graspan_pictures.dot(label, centre, arrows, names_of(store, manifest)))
 
 
 # A command: what carries it out, and the least and the greatest number of words behind it.
@@ -192,7 +187,9 @@ def main(words):
         sys.stdout.flush()
     except BrokenPipeError:
         os.dup2(os.open(os.devnull, os.O_WRONLY), sys.stdout.fileno())
-    except (Refused, OSError, ValueError) as fault:
+    except OSError as fault:
+        sys.exit('graspan_store.py: %s: %s' % (fault.filename, fault.strerror))
+    except (Refused, ValueError) as fault:
         sys.exit('graspan_store.py: %s' % fault)
 
 

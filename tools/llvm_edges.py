@@ -123,6 +123,10 @@ class Program:
         if initial == 'null':
             self.graph.null(held, place)
 
+    def parameter(self, key, function, name):
+        place = 'in %s (%s:%d)' % (function.name[1:], function.file, function.line)
+        return self.graph.vertex(('%', key, name), 'parameter ' + name[1:], place)
+
     def result(self, key, name):
         return self.graph.vertex(('return', key), 'return ' + name[1:])
 
@@ -147,8 +151,8 @@ class Body:
         for name, pointer in self.module.declared(self.function):
             register = self.graph.vertex(self.register_key(name), '&' + pointer.name, self.place(pointer.line))
             self.graph.pointee(register, self.place(pointer.line))
-        for number, name in enumerate(self.function.parameters):
-            self.graph.vertex(self.register_key(name), 'parameter ' + name[1:], self.place(self.function.line))
+        for name in self.function.parameters:
+            self.program.parameter(self.key, self.function, name)
         for self.line, self.text, instruction in self.function.body:
             try:
                 self.step(*instruction)
@@ -303,8 +307,7 @@ class Body:
         """A call of a function with a body."""
         body = self.program.bodies[key]
         for operand, name in zip(arguments, body.parameters):
-            parameter = self.graph.vertex(('%', key, name), 'parameter ' + name[1:])
-            self.take(operand, parameter)
+            self.take(operand, self.program.parameter(key, body, name))
         if len(arguments) > len(body.parameters):
             self.left_out['arguments without a parameter'] += 1
         if result is not None and carries_pointers(returned):
@@ -357,7 +360,9 @@ def main(words):
         sys.stdout.flush()
     except BrokenPipeError:
         os.dup2(os.open(os.devnull, os.O_WRONLY), sys.stdout.fileno())
-    except (NotUnderstood, OSError) as fault:
+    except OSError as fault:
+        sys.exit('llvm_edges.py: %s: %s' % (fault.filename, fault.strerror))
+    except NotUnderstood as fault:
         sys.exit('llvm_edges.py: %s' % fault)
     report(program)
 
