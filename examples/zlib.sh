@@ -2,7 +2,7 @@
 # Closes the pointer graph of a real program: fetches the source of zlib by its Debian source package, compiles it to
 # LLVM IR, converts that, closes it under the alias grammar, and asks what may alias, by name.
 #
-#   examples/zlib.sh FOLDER        FOLDER is made, and takes some 600 MB; some minutes
+#   examples/zlib.sh FOLDER        FOLDER is made, and takes some 600 MB of disk; some minutes
 #
 # A package source of the system isn't touched: apt keeps its lists in FOLDER. MIRROR and SUITE of the environment name
 # another mirror or release of Debian, SOURCE a folder with a source of zlib that is there already.
@@ -50,7 +50,7 @@ echo "lines of C: $(cat "$source"/*.c "$source"/*.h "$source"/test/minigzip.c | 
 sed -n 1p zlib.edges
 
 started=$(date +%s)
-"$top/graspan" store run zlib.edges "$here/alias.grammar" --part-edges 8000
+"$top/graspan" store run zlib.edges "$here/alias.grammar"
 echo "closed in $(($(date +%s) - started)) seconds"
 
 # What may be written through one expression and read through another, each named as it stands in the source.
