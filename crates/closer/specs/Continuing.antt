@@ -41,8 +41,8 @@ pub record Continues (n : Normal) (k : ℕ) (c : Contents) (m : Manifest) (d : C
   pub steps : (parts : List (List Born)) → AreListed c m n.fresh parts
       → Tells (counts_of m.map) (joined_of m.marks) (newest_of m.marks) (state_in m parts)
       → (after : List (List Born)) × AreListed d next n.fresh after
-          × Tells (counts_of next.map) (joined_of next.marks) (newest_of next.marks) (state_in next after)
-          × AfterSteps n k (state_in m parts) (state_in next after)
+      × Tells (counts_of next.map) (joined_of next.marks) (newest_of next.marks) (state_in next after)
+      × AfterSteps n k (state_in m parts) (state_in next after)
 
 -- a crash leaves the manifest m current, with the copies and all files that it names
 pub record Retains (m : Manifest) (old new : Contents) : Type 0 where

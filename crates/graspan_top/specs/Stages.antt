@@ -93,5 +93,5 @@ abbrev pub IsShowBegun : OpenStore → Bool → Contents → Option LabelId → 
 IsShowBegun s tells c shown text =
     ((read : List (List Born)) × AreRead s tells c 0 read × (text ≡ head_text s.manifest ++ tally_text s.manifest.labels (all_edges read)))
     ⊎ ((parts : List (List Born)) × AreListedIn s c parts
-        × (text ≡ head_text s.manifest ++ (tally_text s.manifest.labels (all_edges parts)
-        ++ (shown_text shown (all_edges parts) ++ done_line))))
+    × (text ≡ head_text s.manifest ++ (tally_text s.manifest.labels (all_edges parts)
+    ++ (shown_text shown (all_edges parts) ++ done_line))))

@@ -145,8 +145,8 @@ fn print_query<D: Disk, O: Sink>(
     requires { ends.from < store.now.manifest.vertices }
     ensures printed { (read : List (List ABorn)) × IsPrinted store.now D.tells (D.seen disk.old) (first_asked store.now (Some ends.from)) 1
         (λ edges. answers_text label (Some ends.from) ends.to edges
-            ++ the_count_line (length (answers_in label (Some ends.from) ends.to edges))) (O.told out.old)
-            (O.told out.new) result read × (length read ≡ 0 → AppendsPrefix (O.told out.old) (O.told out.new) []) }
+        ++ the_count_line (length (answers_in label (Some ends.from) ends.to edges))) (O.told out.old)
+        (O.told out.new) result read × (length read ≡ 0 → AppendsPrefix (O.told out.old) (O.told out.new) []) }
     ensures looks { OnlyLooks D.Disk disk.old disk.new }
     ensures later { D.faults disk.old ≤ D.faults disk.new }
     ensures writes { O.faults out.old ≤ O.faults out.new }

@@ -7,7 +7,7 @@ ghost use Rattle.graph_words.specs.Text.{distinct};
 ghost use Rattle.edge_text.specs.EdgesText.{edges_fault};
 ghost use Rattle.edge_text.specs.Feeding.{IsFed};
 ghost use Rattle.disk_model.specs.View.{LeavesBy};
-ghost use Rattle.disk_files.specs.Files.{OnlyFile};
+ghost use Rattle.disk_model.specs.OneFile.{OnlyFile};
 ghost use Rattle.import_text.specs.Copying.{CopiesFile, CopiesBehind, AreFew, HasCauseIn};
 
 use crate::fault::TextFault;

@@ -168,7 +168,7 @@ pub fn same_input<I: Inputs, D: Disk>(
     ensures cause { IfErr result (HasCompareFault (I.faults inputs.old name.now) (I.faults inputs.new name.now)
         (D.faults disk.old) (D.faults disk.new)
         (λ f place. (f ≡ file) × ((text : List ℕ) → I.told inputs.old name.now ≡ Some text → IsTrue D.tells
-            → DiffersFirst text (copy_of store.now.manifest file (D.seen disk.old)) place))) }
+        → DiffersFirst text (copy_of store.now.manifest file (D.seen disk.old)) place))) }
     ensures looks { OnlyLooks D.Disk disk.old disk.new }
     ensures kept { I.told inputs.new ≡ I.told inputs.old }
     ensures others { NoCountFalls I.Inputs inputs.old inputs.new }

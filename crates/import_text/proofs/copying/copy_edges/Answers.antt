@@ -1,7 +1,7 @@
 use Rattle.std.proofs.lemmas.Result.{err_from_is_err_and}
 use Rattle.disk_model.specs.Disk.{ShortenedIn}
 use Rattle.disk_model.specs.Run.{one_step, then_run}
-use Rattle.disk_files.specs.Files.{OnlyFile, only_refl, only_shortened, only_trans}
+use Rattle.disk_model.specs.OneFile.{OnlyFile, only_refl, only_shortened, only_trans}
 use Rattle.import_text.proofs.copying.copy_edges.Goals as goal
 
 pub returns-in_err-cut-clause-any_moment : goal.returns-in_err-cut-clause-any_moment
