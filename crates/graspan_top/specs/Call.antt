@@ -53,7 +53,8 @@ RefusesWords k status = ((status ≡ Words) ⊎ (status ≡ NoMemory)) × Ends k
 abbrev pub IsExplained : Call → Said → Status → Type 0
 IsExplained k c status = Explains k.given k.after k.read_rose k.disk_rose k.out_rose c status
 
--- The command's text stands there at Done, and else a prefix of it or nothing, and the line of the fault. Also of a store whose partitions can't be read, no more stands there than the front of a text that it has.
+-- The command's text stands there at Done, and else a prefix of it or nothing, and the line of the fault. Also of a
+-- store whose partitions can't be read, no more stands there than the front of a text that it has.
 abbrev pub IsPrinted : Call → Said → Status → Type 0
 IsPrinted k c status =
     Prints k.given.tells (IsTextOf k.after c) k.printed_before k.printed_after k.out_rose status

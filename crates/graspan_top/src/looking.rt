@@ -10,7 +10,9 @@ ghost use Rattle.open_store.specs.Store.{IsHeld};
 ghost use Rattle.query_text.specs.Text.{answers_in, answers_text};
 ghost use Rattle.query_text.specs.Answered.{HasAnswerCause, IsBlamed, IsPrinted, first_asked};
 ghost use Rattle.graspan_top.specs.declared.status.Status.TheVariants.{NotKnown, Unfinished};
-ghost use Rattle.graspan_top.specs.Looking.{AreVerticesOf, DumpExplains, IsDumpFront, IsDumpText, IsPartsText, IsQueryText, IsUnfinished, PartsExplains, QueryExplains, count_line as the_count_line, none_undone};
+ghost use Rattle.graspan_top.specs.Looking.{AreVerticesOf, DumpExplains, IsDumpFront, IsDumpText, IsPartsText};
+ghost use Rattle.graspan_top.specs.Looking.{IsQueryText, IsUnfinished, PartsExplains, QueryExplains};
+ghost use Rattle.graspan_top.specs.Looking.{count_line as the_count_line, none_undone};
 ghost use Rattle.graspan_top.specs.Printing.{Begins, IsNothingOr, PrintsFirst, status_of};
 ghost use Rattle.graspan_top.specs.Stages.{FindExplains};
 

@@ -1,5 +1,6 @@
 //! An input is compared with its copy.
-ghost use Rattle.std.specs.Prelude.{◌≡◌, ◌≢◌, ◌<◌, ◌≤◌, ◌+◌, ◌^◌, ℕ, List, IsTrue, true, false, Some, None, Ok, length, take, drop, slice_index_or, OnOk, IfOk, IfErr};
+ghost use Rattle.std.specs.Prelude.{◌≡◌, ◌≢◌, ◌<◌, ◌≤◌, ◌+◌, ◌^◌, ℕ, List, IsTrue, true, false, Some, None, Ok};
+ghost use Rattle.std.specs.Prelude.{length, take, drop, slice_index_or, OnOk, IfOk, IfErr};
 ghost use Rattle.disk_model.specs.Disk.{HasCause};
 ghost use Rattle.disk_model.specs.View.{OnlyLooks};
 ghost use Rattle.io_edge.specs.Devices.{Gives, Rose};
