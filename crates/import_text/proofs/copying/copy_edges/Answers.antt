@@ -13,6 +13,11 @@ returns-in_err-cut-clause-any_moment g c =
 pub copy_pieces-requires-clause-empty : goal.copy_pieces-requires-clause-empty
 copy_pieces-requires-clause-empty g c = λ tells. (c.in_ok-cut.ensures.cut tells).here
 
+pub returns-in_err-cut-clause-fault : goal.returns-in_err-cut-clause-fault
+returns-in_err-cut-clause-fault g c =
+    let p = err_from_is_err_and c.from_residual-in_err-cut.result c.from_residual-in_err-cut.ensures.1 in
+    rw (p.1, p.2) (λ line kind text names e. absurd (cc))
+
 pub returns-in_err-len-clause-fault : goal.returns-in_err-len-clause-fault
 returns-in_err-len-clause-fault g c =
     let p = err_from_is_err_and c.from_residual-in_err-len.result c.from_residual-in_err-len.ensures.1 in
