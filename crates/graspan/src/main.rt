@@ -12,7 +12,7 @@ use fs_disk::FsDisk;
 use fs_inputs::FsInputs;
 use graspan_top::{Status, graspan};
 use help::{HELP, VERSION};
-use io_edge::{Sink, OutSink};
+use io_edge::{OutSink, Sink};
 use std::io;
 use std::process::ExitCode;
 use std::rt::Files;

@@ -59,8 +59,17 @@ head_at First bytes = do
   vertices ← field_at 4 is_vertices BadNumber round.1
   grammar ← field_at 8 is_grammar_len BadNumber vertices.1
   edges ← field_at 8 is_edges_len BadNumber grammar.1
-  Ok (record { generation = generation.0; round = round.0; vertices = vertices.0; grammar_len = grammar.0;
-      edges_len = edges.0; first_len = edges.0 }, edges.1)
+  Ok (
+    record {
+      generation = generation.0;
+      round = round.0;
+      vertices = vertices.0;
+      grammar_len = grammar.0;
+      edges_len = edges.0;
+      first_len = edges.0;
+    },
+    edges.1,
+  )
 
 -- a label behind those before: a length, and as many bytes, are one field
 unfoldable pub label_at : List (List ℕ) → List ℕ → Read (List (List ℕ))
