@@ -9,7 +9,7 @@ use Rattle.closing_machine.proofs.Members.{either}
 use Rattle.disk_model.specs.Disk.{Contents}
 use Rattle.disk_model.specs.Crash.{From, LeavesJust, LeavesOnly}
 use Rattle.disk_model.specs.Run.{and_then, at_end, no_step, then_no_more, then_run}
-use Rattle.disk_files.specs.Files.{OnlyFile}
+use Rattle.disk_model.specs.OneFile.{OnlyFile}
 use Rattle.manifest_codec.specs.declared.types.Manifest.{Manifest}
 use Rattle.manifest_codec.specs.declared.types.PartEntry.{PartEntry}
 use Rattle.manifest_codec.specs.Spelling.{Fits}

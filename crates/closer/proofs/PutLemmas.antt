@@ -9,7 +9,7 @@ use Rattle.graph_words.specs.declared.types.Born.{Born}
 use Rattle.closing_machine.specs.State.{greatest_birth}
 use Rattle.closing_machine.proofs.Members.{either}
 use Rattle.disk_model.specs.Disk.{Contents, Sets}
-use Rattle.disk_files.specs.Files.{only_set}
+use Rattle.disk_model.specs.OneFile.{only_set}
 use Rattle.partition_file.specs.Spelling.{newest_format, Part, Spells, spelling}
 use Rattle.dest_map.specs.Table.{entry}
 use Rattle.dest_map.proofs.TableLemmas.{entry_set}

@@ -25,8 +25,10 @@ abbrev pub IfAgain : Stepped → (OpenStore → Type 0) → Type 0
 IfAgain (Finished s) P = Unit {0}
 IfAgain (Again s) P = P s
 
--- The store before had work left, and this is the one after a step, in the other slot: where the disk tells its contents they go on from those before. It may be changed again, and what a read gives is what a crash leaves.
-pub record IsStepped (tells : Bool) (seen_before : Contents) (before : OpenStore) (seen : Contents) (images : Contents → Type 0) (s : OpenStore) : Type 0 where
+-- The store before had work left, and this is the one after a step, in the other slot: where the disk tells its
+-- contents they go on from those before. It may be changed again, and what a read gives is what a crash leaves.
+pub record IsStepped (tells : Bool) (seen_before : Contents) (before : OpenStore) (seen : Contents)
+    (images : Contents → Type 0) (s : OpenStore) : Type 0 where
   pub work : HasWork before.manifest
   pub continues : IsTrue tells → Continues (normal_form before.rules) 1 seen_before before.manifest seen s.manifest
   pub rules_are : s.rules ≡ before.rules
@@ -36,7 +38,8 @@ pub record IsStepped (tells : Bool) (seen_before : Contents) (before : OpenStore
   pub synced : LeavesJust seen images
 
 -- The store has no work left, and came from the one before by some steps.
-pub record IsClosed (tells : Bool) (seen_before : Contents) (images_before : Contents → Type 0) (before : OpenStore) (seen : Contents) (images : Contents → Type 0) (s : OpenStore) : Type 0 where
+pub record IsClosed (tells : Bool) (seen_before : Contents) (images_before : Contents → Type 0) (before : OpenStore)
+    (seen : Contents) (images : Contents → Type 0) (s : OpenStore) : Type 0 where
   pub done : IsDone s.manifest
   pub continues : IsTrue tells → (k : ℕ) × Continues (normal_form before.rules) k seen_before before.manifest seen s.manifest
   pub rules_are : s.rules ≡ before.rules

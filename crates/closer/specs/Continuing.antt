@@ -19,7 +19,8 @@ use Rattle.manifest_switch.specs.Slots.{current_of}
 use Rattle.store_law.specs.Listed.{AreListed, state_in}
 use Rattle.store_law.specs.Steps.{KeepsCopies, KeepsFiles}
 
--- one step of closing on the pair that is picked: the first round goes over joins since the least mark of the loaded partitions, and the rounds go on until one adds nothing
+-- one step of closing on the pair that is picked: the first round goes over joins since the least mark of the
+-- loaded partitions, and the rounds go on until one adds nothing
 pub record IsWholePass (n : Normal) (before after : State) : Type 0 where
   pub i : ℕ
   pub j : ℕ
@@ -33,7 +34,8 @@ abbrev pub AfterSteps : Normal → ℕ → State → State → Type 0
 AfterSteps n zero s after = after ≡ s
 AfterSteps n (suc k) s after = (mid : State) × AfterSteps n k s mid × IsWholePass n mid after
 
--- the manifest `next` in the contents d goes on from m in c by k steps: it is of the same texts, and whatever partitions m lists and tells of, it lists and tells of those after the steps
+-- the manifest `next` in the contents d goes on from m in c by k steps: it is of the same texts, and whatever
+-- partitions m lists and tells of, it lists and tells of those after the steps
 pub record Continues (n : Normal) (k : ℕ) (c : Contents) (m : Manifest) (d : Contents) (next : Manifest) : Type 0 where
   pub fits : Fits next
   pub same : AreOfSameTexts m next
@@ -41,8 +43,8 @@ pub record Continues (n : Normal) (k : ℕ) (c : Contents) (m : Manifest) (d : C
   pub steps : (parts : List (List Born)) → AreListed c m n.fresh parts
       → Tells (counts_of m.map) (joined_of m.marks) (newest_of m.marks) (state_in m parts)
       → (after : List (List Born)) × AreListed d next n.fresh after
-          × Tells (counts_of next.map) (joined_of next.marks) (newest_of next.marks) (state_in next after)
-          × AfterSteps n k (state_in m parts) (state_in next after)
+      × Tells (counts_of next.map) (joined_of next.marks) (newest_of next.marks) (state_in next after)
+      × AfterSteps n k (state_in m parts) (state_in next after)
 
 -- a crash leaves the manifest m current, with the copies and all files that it names
 pub record Retains (m : Manifest) (old new : Contents) : Type 0 where

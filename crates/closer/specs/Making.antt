@@ -1,5 +1,7 @@
 -- How a step makes the next manifest: a pair is loaded, run and marked, and what changed of it is put.
-use Rattle.std.specs.Prelude.{◌≡◌, ◌≢◌, ◌⊎◌, ◌^◌, ◌*◌, ◌==◌, slice_set, slice_index_or, ◌&&◌, ◌+◌, ◌<◌, ◌≤◌, ℕ, Bool, true, IsTrue, List, length, map, All, AllPairs, Option, Some, None, if◌then◌else◌}
+use Rattle.std.specs.Prelude.{◌≡◌, ◌≢◌, ◌⊎◌, ◌^◌, ◌*◌, ◌==◌, slice_set, slice_index_or, ◌&&◌, ◌+◌, ◌<◌, ◌≤◌, ℕ}
+use Rattle.std.specs.Prelude.{Bool, true, IsTrue, List, length, map, All, AllPairs, Option, Some, None}
+use Rattle.std.specs.Prelude.{if◌then◌else◌}
 use Rattle.graph_words.specs.declared.types.Born.{Born}
 use Rattle.normal_law.specs.Closure.{Normal}
 use Rattle.normal_law.specs.NormalForm.{normal_form}
@@ -53,7 +55,8 @@ abbrev pub IfHigh : Option Part → (Part → Type 0) → Type 0
 IfHigh None P = Unit {0}
 IfHigh (Some q) P = P q
 
--- k rounds on the partitions p and q made p' and q', and a further one adds nothing. The first goes over joins of which an edge is born at or after since
+-- k rounds on the partitions p and q made p' and q', and a further one adds nothing. The first goes over joins of
+-- which an edge is born at or after since
 pub record AreRun (n : Normal) (since round : ℕ) (p : Part) (q : Option Part) (p' : Part) (q' : Option Part) (k : ℕ) : Type 0 where
   pub low_is : (loaded_of p' q').low ≡ (loaded_of p q).low
   pub high_is : (loaded_of p' q').high ≡ (loaded_of p q).high
@@ -138,7 +141,8 @@ pub record Puts (m : Manifest) (a : ℕ) (p : Part) (before after : Manifest) (o
   pub spelled : Spells (new (part_file after a)) p
   pub others : (x : ℕ) → x < length before.parts → x ≢ a → new (part_file before x) ≡ old (part_file before x)
 
--- the partition may be put: it is one of the store's intervals, and where no edge of it is new, the manifest that is made tells of it already and its file spells it
+-- the partition may be put: it is one of the store's intervals, and where no edge of it is new, the manifest that
+-- is made tells of it already and its file spells it
 pub record MayPut (s : OpenStore) (tells : Bool) (c : Contents) (a : ℕ) (p : Part) (next : Manifest) : Type 0 where
   pub there : a < length next.parts
   pub part_is : p ≡ part_of s.manifest a p.edges
@@ -154,7 +158,8 @@ MayPutPair s tells c low high p None next = MayPut s tells c low p next
 MayPutPair s tells c low high p (Some q) next = (low < high) × MayPut s tells c low p next × MayPut s tells c high q next
 
 -- both partitions were put, the low one first
-pub record ArePut2 (m : Manifest) (tells : Bool) (low high : ℕ) (p q : Part) (before : Manifest) (old : Contents) (after : Manifest) (new : Contents) : Type 0 where
+pub record ArePut2 (m : Manifest) (tells : Bool) (low high : ℕ) (p q : Part) (before : Manifest) (old : Contents)
+    (after : Manifest) (new : Contents) : Type 0 where
   pub mid : Manifest
   pub between : Contents
   pub low_takes : TakesOn m.round low p.edges before mid

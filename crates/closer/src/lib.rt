@@ -3,15 +3,14 @@
 
 mod laws;
 mod making;
-mod options;
 mod pairing;
 mod putting;
 mod stepping;
 mod to_end;
 
-pub use laws::{stores_are_not_refused,
+pub use laws::{
     held_stores_have_the_rules_of_their_texts, steps_keep_a_store, stops_leave_a_store,
+    stores_are_not_refused,
 };
-pub use options::RunOptions;
 pub use stepping::{Stepped, step};
 pub use to_end::run_to_end;

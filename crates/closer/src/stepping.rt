@@ -10,9 +10,9 @@ ghost use Rattle.closer.specs.Answers.{BlamesPicked, IfAgain, IfFinished, IsStep
 ghost use Rattle.closer.specs.Making.{BlamesPair, IsNext, IsOrderedPair, Spares};
 
 use crate::making::marked;
-use crate::options::RunOptions;
 use crate::pairing::{least_mark, load_pair, run_loaded};
 use crate::putting::put_pair;
+use closing_options::RunOptions;
 use disk_model::Disk;
 use manifest_codec::Manifest;
 use open_store::{Store, StoreFault};

@@ -7,8 +7,8 @@ ghost use Rattle.open_store.specs.Answers.{HasDiskCause};
 ghost use Rattle.open_store.specs.Store.{IsHeldAlone};
 ghost use Rattle.closer.specs.Answers.{BlamesOnTheWay, IsClosed, Moves};
 
-use crate::options::RunOptions;
 use crate::stepping::{Stepped, step};
+use closing_options::RunOptions;
 use disk_model::Disk;
 use open_store::{Store, StoreFault};
 use std::alloc::Global;

@@ -14,7 +14,7 @@ use Rattle.clap.proofs.ValueTestLemmas.{accepts-Accepts, Accepts-accepts}
 use Rattle.clap.proofs.WalkLemmas.{one_text-rows}
 use Rattle.command_words.specs.Command.{IsNumber, IsNumberOr, GiveNumbers}
 use Rattle.command_words.specs.Asking.{HasTexts, IsDigits, numbers_app, asked}
-use Rattle.closer.specs.declared.options.RunOptions.{RunOptions}
+use Rattle.closing_options.specs.declared.RunOptions.{RunOptions}
 use Rattle.command_words.proofs.NumberLemmas.{all_digits, no_plus}
 
 -- clap takes the value of an option, where it is given

@@ -3,7 +3,7 @@ use Rattle.std.specs.Prelude.{◌≡◌, ◌≢◌, ℕ, ◌≤◌, List, [], �
 use Rattle.std.specs.Str.Parse.{digits_value}
 use Rattle.graph_words.specs.Text.{IsDigit, IsLabel, IsVertexNumber, same_name}
 use Rattle.command_words.specs.Words.{Given, Cuts}
-use Rattle.closer.specs.declared.options.RunOptions.{RunOptions}
+use Rattle.closing_options.specs.declared.RunOptions.{RunOptions}
 use Rattle.command_words.specs.declared.command.Command.{Command}
 use Rattle.command_words.specs.declared.command.Command.TheVariants as commands
 

@@ -23,8 +23,12 @@ pub data Cuts : List (List ℕ) → List Given → List (List ℕ) → Type 0 wh
   plain : {word : List ℕ} {words : List (List ℕ)} {options : List Given} {plains : List (List ℕ)}
       → is_dashed word ≡ false → Cuts words options plains → Cuts (word ∷ words) options (word ∷ plains)
   -- `--name=value`, at the first '='
-  joined : {word : List ℕ} {words : List (List ℕ)} {options : List Given} {plains : List (List ℕ)} (name value : List ℕ) → word ≡ codes "--" ++ (name ++ (codes "=" ++ value)) → (Contains name 61 → ⊥) → Cuts words options plains → Cuts (word ∷ words) (given name value ∷ options) plains
+  joined : {word : List ℕ} {words : List (List ℕ)} {options : List Given} {plains : List (List ℕ)}
+      (name value : List ℕ) → word ≡ codes "--" ++ (name ++ (codes "=" ++ value)) → (Contains name 61 → ⊥)
+      → Cuts words options plains → Cuts (word ∷ words) (given name value ∷ options) plains
   -- `--name` and its value, which is the next word
-  apart : {word value : List ℕ} {words : List (List ℕ)} {options : List Given} {plains : List (List ℕ)} (name : List ℕ) → word ≡ codes "--" ++ name → name ≢ [] → (Contains name 61 → ⊥) → is_dashed value ≡ false → Cuts words options plains → Cuts (word ∷ value ∷ words) (given name value ∷ options) plains
+  apart : {word value : List ℕ} {words : List (List ℕ)} {options : List Given} {plains : List (List ℕ)}
+      (name : List ℕ) → word ≡ codes "--" ++ name → name ≢ [] → (Contains name 61 → ⊥) → is_dashed value ≡ false
+      → Cuts words options plains → Cuts (word ∷ value ∷ words) (given name value ∷ options) plains
   -- behind `--` each word is plain
   rest : {word : List ℕ} {words : List (List ℕ)} → word ≡ codes "--" → Cuts (word ∷ words) [] words

@@ -7,7 +7,7 @@ ghost use Rattle.clap.specs.Faults.{fault_of};
 ghost use Rattle.clap.specs.Matches.{found_of};
 ghost use Rattle.clap.specs.Values.{kind_of};
 ghost use Rattle.command_words.specs.declared.fault.WordsFault.TheVariants.{Words};
-ghost use Rattle.closer.specs.declared.options.RunOptions.{RunOptions as Numbers};
+ghost use Rattle.closing_options.specs.declared.RunOptions.{RunOptions as Numbers};
 ghost use Rattle.command_words.specs.Command.{IsNumber, GiveNumbers};
 ghost use Rattle.command_words.specs.Asking.{asked, number_rule, numbers_app, option_words, HasTexts, IsDigits};
 
@@ -15,7 +15,7 @@ use crate::fault::WordsFault;
 use clap::builder::ValueParser;
 use clap::error::ErrorKind;
 use clap::{Arg, ArgMatches, Command, Error};
-use closer::RunOptions;
+use closing_options::RunOptions;
 use std::alloc::{AllocError, Global};
 
 /// The greatest number of an option other than `--workers`.

@@ -1,5 +1,5 @@
 //! The commands.
-use closer::RunOptions;
+use closing_options::RunOptions;
 
 /// A command, with the names that its words give.
 #[derive(Clone, Copy, Debug, PartialEq, Eq)]

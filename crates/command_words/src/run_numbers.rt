@@ -2,7 +2,7 @@
 ghost use Rattle.std.specs.Prelude.{◌≡◌, ◌↔◌, IsTrue, IfOk, IfErr, IfSome, map};
 ghost use Rattle.std.specs.Option.{option_copied};
 ghost use Rattle.command_words.specs.declared.fault.WordsFault.TheVariants.{Words};
-ghost use Rattle.closer.specs.declared.options.RunOptions.{RunOptions as Numbers};
+ghost use Rattle.closing_options.specs.declared.RunOptions.{RunOptions as Numbers};
 ghost use Rattle.command_words.specs.Asking.{IsDigits};
 ghost use Rattle.command_words.specs.Command.{AreNumbers};
 ghost use Rattle.command_words.specs.Cutting.{given_said};
@@ -11,7 +11,7 @@ use crate::asking::ask_numbers;
 use crate::cutting::Given;
 use crate::fault::WordsFault;
 use crate::run_options::find_option;
-use closer::RunOptions;
+use closing_options::RunOptions;
 use std::alloc::Global;
 
 /// Whether a word is one digit or more.

@@ -33,7 +33,7 @@ abbrev pub split_count : ℕ → List ℕ → List ℕ → List ℕ → (ℕ →
 split_count i row column corner old a b =
     if is_child i a
     then (if is_child i b then slice_index_or corner (2 * (a - i) + (b - i)) 0
-        else share i a (slice_index_or row (parent i b) 0) (old i (parent i b)))
+    else share i a (slice_index_or row (parent i b) 0) (old i (parent i b)))
     else (if is_child i b then share i b (slice_index_or column (parent i a) 0) (old (parent i a) i) else old (parent i a) (parent i b))
 
 -- the low child's row and column have a number for each partition, and but for partition i none exceeds its parent's count

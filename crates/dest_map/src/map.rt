@@ -1,4 +1,6 @@
-ghost use Rattle.std.specs.Prelude.{◌≡◌, ◌+◌, ◌-◌, ◌*◌, ◌^◌, ◌<◌, ◌≤◌, ◌==◌, ◌&&◌, ◌||◌, ℕ, List, [], length, sum, replicate, slice_index_or, if◌then◌else◌, IfOk, OnOk, OnErr, IsPermutation, ◌∷◌};
+ghost use Rattle.std.specs.Prelude.{◌≡◌, ◌+◌, ◌-◌, ◌*◌, ◌^◌, ◌<◌, ◌≤◌, ◌==◌, ◌&&◌, ◌||◌, ℕ, List, [], length, sum};
+ghost use Rattle.std.specs.Prelude.{replicate, slice_index_or, if◌then◌else◌, IfOk, OnOk, OnErr, IsPermutation};
+ghost use Rattle.std.specs.Prelude.{◌∷◌};
 ghost use Rattle.graph_words.specs.declared.types.Born.{Born as ABorn};
 ghost use Rattle.closing_machine.specs.State.{part, target};
 ghost use Rattle.closing_machine.specs.Machine.{parent};

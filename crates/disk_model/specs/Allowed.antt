@@ -1,4 +1,5 @@
--- What the clauses of `Disk` allow a crash to leave after a list of calls, beside the definition by base, least and greatest length and written ranges.
+-- What the clauses of `Disk` allow a crash to leave after a list of calls, beside the definition by base, least and
+-- greatest length and written ranges.
 use Rattle.std.specs.Prelude.{◌≡◌, ℕ, true, false, if◌then◌else◌, ◌==◌, List, [], ◌∷◌, length, take}
 use Rattle.disk_model.specs.Disk.{Contents, written, TornIn, ShortenedIn}
 use Rattle.disk_model.specs.Crash.{From}
@@ -10,7 +11,8 @@ seen_after (write file at bytes true) seen = λ g. if g == file then written (se
 seen_after (cut file len true) seen = λ g. if g == file then take len (seen file) else seen g
 seen_after _ seen = seen
 
--- what a call leaves possible, where a read gives `seen` and a crash might leave `images`: a torn write and a cut that stopped anywhere, also where the call failed, and what a read gives after a sync
+-- what a call leaves possible, where a read gives `seen` and a crash might leave `images`: a torn write and a cut
+-- that stopped anywhere, also where the call failed, and what a read gives after a sync
 unfoldable pub allowed_after : Call → Contents → (Contents → Type 0) → Contents → Type 0
 allowed_after (write file at bytes made) seen images c = From images (TornIn file at (length bytes)) c
 allowed_after (cut file len made) seen images c = From images (ShortenedIn file len) c

@@ -1,5 +1,6 @@
 -- The crash model: what a list of calls makes of the files of a disk, and what a crash then may leave of them.
-use Rattle.std.specs.Prelude.{◌≡◌, ℕ, ◌+◌, ◌<◌, ◌≤◌, min, max, Bool, true, false, ◌&&◌, ◌||◌, if◌then◌else◌, ◌==◌, nat_le, nat_lt, List, [], ◌∷◌, ◌++◌, length, take, slice_index}
+use Rattle.std.specs.Prelude.{◌≡◌, ℕ, ◌+◌, ◌<◌, ◌≤◌, min, max, Bool, true, false, ◌&&◌, ◌||◌, if◌then◌else◌, ◌==◌}
+use Rattle.std.specs.Prelude.{nat_le, nat_lt, List, [], ◌∷◌, ◌++◌, length, take, slice_index}
 use Rattle.disk_model.specs.Disk.{Contents, written}
 
 -- a call that changes a disk: a write of bytes to a file at a place, a cut of a file to a length, or a sync; and whether it succeeded
@@ -8,7 +9,8 @@ pub data Call : Type 0 where
   cut : ℕ → ℕ → Bool → Call
   sync : Bool → Call
 
--- a file: what a read gives; its bytes at the last sync that succeeded, its least and greatest length since then, that length included, and the ranges written since
+-- a file: what a read gives; its bytes at the last sync that succeeded, its least and greatest length since then,
+-- that length included, and the ranges written since
 pub record FileState : Type 0 where
   pub seen : List ℕ
   pub base : List ℕ
@@ -66,7 +68,8 @@ unfoldable pub touched : List (ℕ × ℕ) → ℕ → Bool
 touched [] i = false
 touched (r ∷ ranges) i = (nat_le r.0 i && nat_lt i (r.0 + r.1)) || touched ranges i
 
--- what a crash may leave of a file: a length from the least to the greatest, and base's byte where it is below the least and nothing was written since
+-- what a crash may leave of a file: a length from the least to the greatest, and base's byte where it is below the
+-- least and nothing was written since
 pub record IsFileImage (s : FileState) (c : List ℕ) : Type 0 where
   pub no_shorter : s.keep ≤ length c
   pub no_longer : length c ≤ s.longest

@@ -4,7 +4,8 @@ use Rattle.disk_model.specs.Disk.{Contents}
 use Rattle.disk_model.specs.Crash.{NoMore, Elapses}
 
 -- what a read gives is as before, and a crash leaves just what it could before, at each moment too
-pub record Looks {D : Type 0} (seen : D → Contents) (may_leave : D → Contents → Type 0) (moment : D → ℕ) (left_since : D → ℕ → Contents → Type 0) (old new : D) : Type 0 where
+pub record Looks {D : Type 0} (seen : D → Contents) (may_leave : D → Contents → Type 0) (moment : D → ℕ)
+    (left_since : D → ℕ → Contents → Type 0) (old new : D) : Type 0 where
   pub same_seen : seen new ≡ seen old
   pub no_more : NoMore (may_leave old) (may_leave new)
   pub no_less : NoMore (may_leave new) (may_leave old)

@@ -63,7 +63,7 @@ fn read_text<I: Inputs>(
         → ReadsFile names (I.told inputs.old name.now) edges reader.new.table) }
     ensures fault { IfErr result (λ e. (line : ℕ) (kind : AKind) (file : List ℕ) (names : List (List ℕ)) → e ≡ EdgesFault.Text line kind
         → I.told inputs.old name.now ≡ Some file → IsFed 0 names [] reader.old []
-            → edges_fault 0 names file ≡ Some (record { line = line; kind = kind })) }
+        → edges_fault 0 names file ≡ Some (record { line = line; kind = kind })) }
     ensures failed { IfErr result (λ e. e ≡ EdgesFault.ReadFailed → Rose (I.faults inputs.old name.now) (I.faults inputs.new name.now)) }
     ensures kept { I.told inputs.new ≡ I.told inputs.old }
     ensures others { NoCountFalls I.Inputs inputs.old inputs.new }
@@ -98,7 +98,7 @@ pub fn read_edges<I: Inputs>(
         → ReadsFile names (I.told inputs.old name.now) edges table.new) }
     ensures fault { IfErr result (λ e. (line : ℕ) (kind : AKind) (file : List ℕ) (names : List (List ℕ)) → e ≡ EdgesFault.Text line kind
         → I.told inputs.old name.now ≡ Some file → table.old ≡ distinct names
-            → edges_fault 0 names file ≡ Some (record { line = line; kind = kind })) }
+        → edges_fault 0 names file ≡ Some (record { line = line; kind = kind })) }
     ensures failed { IfErr result (λ e. e ≡ EdgesFault.ReadFailed → Rose (I.faults inputs.old name.now) (I.faults inputs.new name.now)) }
     ensures kept { I.told inputs.new ≡ I.told inputs.old }
     ensures others { NoCountFalls I.Inputs inputs.old inputs.new }

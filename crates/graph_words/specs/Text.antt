@@ -1,4 +1,5 @@
-use Rattle.std.specs.Prelude.{◌≡◌, ℕ, ◌≤◌, Bool, true, false, not, ◌||◌, ◌&&◌, ◌==◌, nat_eq, nat_le, map, List, [], ◌∷◌, ◌++◌, length, All, filter, if◌then◌else◌}
+use Rattle.std.specs.Prelude.{◌≡◌, ℕ, ◌≤◌, Bool, true, false, not, ◌||◌, ◌&&◌, ◌==◌, nat_eq, nat_le, map, List, []}
+use Rattle.std.specs.Prelude.{◌∷◌, ◌++◌, length, All, filter, if◌then◌else◌}
 use Rattle.std.specs.List.{slice_split, flat_map, list_any, list_all, position_or_len}
 use Rattle.std.specs.Str.Parse.{digits_value}
 use lib.Pointwise.{pointwise}

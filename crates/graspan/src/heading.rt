@@ -1,5 +1,5 @@
 //! What a manifest says of how far a closing is.
-use manifest::{Manifest, decode};
+use manifest_codec::{Manifest, decode};
 use std::alloc::Global;
 
 /// The numbers of a manifest that are shown.

@@ -12,7 +12,7 @@ use Rattle.graspan_top.specs.Printing.{Begins}
 use Rattle.graspan_top.specs.Run.{IsRunBegun}
 use Rattle.graspan_top.specs.Looking.{IsAny, IsDumpFront, IsPartsText, IsQueryText, IsKnownIn, IsUnfinished, IsUnknownIn, none_undone, none_unknown, wants_all, wants_none, wants_one}
 use Rattle.graspan_top.specs.declared.status.Status.{Status}
-use Rattle.graspan_top.specs.declared.status.Status.TheVariants.{Words}
+use Rattle.graspan_top.specs.declared.status.Status.TheVariants.{Done, Words}
 use Rattle.graspan_top.proofs.ExplainLemmas.{explains_later}
 use Rattle.graspan_top.proofs.LookLemmas.{look_later}
 use Rattle.graspan_top.proofs.TextLemmas.{nothing_begun}
@@ -35,6 +35,10 @@ module _ (x : Given) (after : Contents) (reads : List ℕ → Type 0) (dr wr : T
 pub words_back : (f : WordsFault) → of_words f ≡ Words → f ≡ words.Words
 words_back words.Words e = refl
 words_back words.NoMemory e = absurd (cc)
+
+pub words_not_done : (f : WordsFault) → of_words f ≡ Done → ⊥
+words_not_done words.Words e = absurd (cc)
+words_not_done words.NoMemory e = absurd (cc)
 
 -- nothing was begun, whichever the command is
 pub nothing_begun_of : (known : Bool) (c : Contents) (d : Said) (old : Option (List ℕ)) (s : Status) → Begins known (IsBegunOf c d) old old s

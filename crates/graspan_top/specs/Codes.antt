@@ -1,6 +1,8 @@
 use Rattle.std.specs.Prelude.{ℕ}
 use Rattle.graspan_top.specs.declared.status.Status.{Status}
-use Rattle.graspan_top.specs.declared.status.Status.TheVariants.{Done, Words, InputFault, OtherInput, ReadFault, DiskFault, WriteFault, NoMemory, BadStore, NoStore, Unfinished, NotKnown}
+use Rattle.graspan_top.specs.declared.status.Status.TheVariants.{Done, Words, InputFault, OtherInput, ReadFault}
+use Rattle.graspan_top.specs.declared.status.Status.TheVariants.{DiskFault, WriteFault, NoMemory, BadStore, NoStore}
+use Rattle.graspan_top.specs.declared.status.Status.TheVariants.{Unfinished, NotKnown}
 
 -- the number that the program ends with
 abbrev pub code_of : Status → ℕ

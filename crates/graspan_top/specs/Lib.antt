@@ -7,3 +7,4 @@ pub mod Run
 pub mod Looking
 pub mod Command
 pub mod Stages
+pub mod Call

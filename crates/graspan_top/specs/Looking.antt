@@ -1,5 +1,6 @@
 -- What the commands that only read a store answer and print.
-use Rattle.std.specs.Prelude.{◌≡◌, ◌⊎◌, ℕ, ◌≤◌, ◌<◌, true, IsTrue, List, [], ◌∷◌, ◌++◌, length, slice_get, slice_index_or, Contains, codes, decimal, Option, Some, None, Ok, IfSome}
+use Rattle.std.specs.Prelude.{◌≡◌, ◌⊎◌, ℕ, ◌≤◌, ◌<◌, true, IsTrue, List, [], ◌∷◌, ◌++◌, length, slice_get}
+use Rattle.std.specs.Prelude.{slice_index_or, Contains, codes, decimal, Option, Some, None, Ok, IfSome}
 use Rattle.graph_words.specs.declared.types.LabelId.{LabelId}
 use Rattle.graph_words.specs.declared.types.Born.{Born}
 use Rattle.graph_words.specs.declared.types.Rule.{Rule}
@@ -26,7 +27,9 @@ use Rattle.query_text.specs.Answered.{AreRead, IsBlamed, first_asked, wanted}
 use Rattle.graspan_top.specs.Given.{Given}
 use Rattle.graspan_top.specs.Run.{IsEnd}
 use Rattle.graspan_top.specs.declared.status.Status.{Status}
-use Rattle.graspan_top.specs.declared.status.Status.TheVariants.{Done, Words, InputFault, OtherInput, ReadFault, DiskFault, WriteFault, NoMemory, BadStore, NoStore, Unfinished, NotKnown}
+use Rattle.graspan_top.specs.declared.status.Status.TheVariants.{Done, Words, InputFault, OtherInput, ReadFault}
+use Rattle.graspan_top.specs.declared.status.Status.TheVariants.{DiskFault, WriteFault, NoMemory, BadStore, NoStore}
+use Rattle.graspan_top.specs.declared.status.Status.TheVariants.{Unfinished, NotKnown}
 
 -- what is read of a store: partitions from one number on, and how many
 pub record Wants : Type 0 where
@@ -56,7 +59,8 @@ pub data LookBlames (c : Contents) (w : Wants) (Ready : Manifest → Type 0) : �
   loading : {file place : ℕ} {kind : FormKind} (s : OpenStore) → IsHeld s c → Ready s.manifest
       → IsBlamed s true c (w.first s) (w.number s) file place kind → LookBlames c w Ready file place kind
 
--- Why a command that only reads answers as it does, by what a read gives. Ready says of a manifest that the command may print it, and Unknown that what is asked isn't there. The last two say that a count of faults rose.
+-- Why a command that only reads answers as it does, by what a read gives. Ready says of a manifest that the command
+-- may print it, and Unknown that what is asked isn't there. The last two say that a count of faults rose.
 abbrev pub LookExplains : Given → Wants → (Manifest → Type 0) → (Manifest → ℕ → ℕ → Type 0) → (Manifest → Type 0) → Type 0 → Type 0 → Status → Type 0
 LookExplains x w Ready Undone Unknown disk_rose out_rose Done = IsTrue x.tells → (m : Manifest) × HasCurrent x.before m × Ready m
 LookExplains x w Ready Undone Unknown disk_rose out_rose NoStore = IsTrue x.tells → current_of x.before ≡ Ok Blank
@@ -126,7 +130,8 @@ pub record IsPartEnd (c : Contents) (m : Manifest) (u : ℕ) (edges : List Born)
 abbrev pub count_line : ℕ → List ℕ
 count_line n = codes "count " ++ (decimal n ++ 10 ∷ [])
 
--- The text of a query: the answers of the label from the vertex, and to the other one where it is asked for, and their number. They stand in the partition that holds the vertex.
+-- The text of a query: the answers of the label from the vertex, and to the other one where it is asked for, and
+-- their number. They stand in the partition that holds the vertex.
 pub record IsQueryText (c : Contents) (label : List ℕ) (from : ℕ) (to : Option ℕ) (text : List ℕ) : Type 0 where
   pub manifest : Manifest
   pub edges : List Born

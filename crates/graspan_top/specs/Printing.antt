@@ -4,7 +4,9 @@ use Rattle.std.specs.Io.KnownBytes.{Appends}
 use Rattle.io_edge.specs.Devices.{AppendsPrefix}
 use Rattle.graspan_top.specs.Names.{file_name, form_name, kind_name}
 use Rattle.graspan_top.specs.declared.status.Status.{Status}
-use Rattle.graspan_top.specs.declared.status.Status.TheVariants.{Done, Words, InputFault, OtherInput, ReadFault, DiskFault, WriteFault, NoMemory, BadStore, NoStore, Unfinished, NotKnown}
+use Rattle.graspan_top.specs.declared.status.Status.TheVariants.{Done, Words, InputFault, OtherInput, ReadFault}
+use Rattle.graspan_top.specs.declared.status.Status.TheVariants.{DiskFault, WriteFault, NoMemory, BadStore, NoStore}
+use Rattle.graspan_top.specs.declared.status.Status.TheVariants.{Unfinished, NotKnown}
 
 -- the line of a fault, with its line feed. A failed write has none.
 abbrev pub fault_line : Status → List ℕ
@@ -33,7 +35,8 @@ TakesPrefix known IsText old new = (text : List ℕ) → IsTrue known → IsText
 abbrev pub TakesBoth : Bool → (List ℕ → Type 0) → Option (List ℕ) → Option (List ℕ) → Type 0 → List ℕ → Type 0
 TakesBoth known IsText old new out_rose line = (mid : Option (List ℕ)) × TakesPrefix known IsText old mid × TakesLine mid new out_rose line
 
--- What was printed, where the command's text is known: all of it at Done, a prefix of it where a write failed, and before the line of a fault that may come while it is printed. The line of any other fault stands alone.
+-- What was printed, where the command's text is known: all of it at Done, a prefix of it where a write failed, and
+-- before the line of a fault that may come while it is printed. The line of any other fault stands alone.
 abbrev pub Prints : Bool → (List ℕ → Type 0) → Option (List ℕ) → Option (List ℕ) → Type 0 → Status → Type 0
 Prints known IsText old new out_rose Done = IsTrue known → (text : List ℕ) × IsText text × Appends old new text
 Prints known IsText old new out_rose WriteFault = TakesPrefix known IsText old new

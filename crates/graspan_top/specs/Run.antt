@@ -30,7 +30,9 @@ use Rattle.query_text.specs.Text.{answers_text, head_text, tally_text}
 use Rattle.query_text.specs.Answered.{AreRead, IsBlamed}
 use Rattle.graspan_top.specs.Given.{Given, WhereTold}
 use Rattle.graspan_top.specs.declared.status.Status.{Status}
-use Rattle.graspan_top.specs.declared.status.Status.TheVariants.{Done, Words, InputFault, OtherInput, ReadFault, DiskFault, WriteFault, NoMemory, BadStore, NoStore, Unfinished, NotKnown}
+use Rattle.graspan_top.specs.declared.status.Status.TheVariants.{Done, Words, InputFault, OtherInput, ReadFault}
+use Rattle.graspan_top.specs.declared.status.Status.TheVariants.{DiskFault, WriteFault, NoMemory, BadStore, NoStore}
+use Rattle.graspan_top.specs.declared.status.Status.TheVariants.{Unfinished, NotKnown}
 
 -- ---- what a run prints
 
@@ -143,7 +145,10 @@ pub record IsUnknown (c : Contents) (label : List ℕ) : Type 0 where
   pub done : IsDone manifest
   pub none : Contains manifest.labels label → ⊥
 
--- Why a run answers as it does. The last four say that a count of faults rose: for the edge file's name, for the grammar's, of the disk, and of what is printed to. Done, InputFault, OtherInput, NotKnown and WriteFault say that no refusal of the two files holds that comes before them; ReadFault of the edge file, DiskFault and BadStore say it of the grammar file alone.
+-- Why a run answers as it does. The last four say that a count of faults rose: for the edge file's name, for the
+-- grammar's, of the disk, and of what is printed to. Done, InputFault, OtherInput, NotKnown and WriteFault say that
+-- no refusal of the two files holds that comes before them; ReadFault of the edge file, DiskFault and BadStore say
+-- it of the grammar file alone.
 abbrev pub RunExplains : Given → List ℕ → List ℕ → Option (List ℕ) → Contents → Type 0 → Type 0 → Type 0 → Type 0 → Status → Type 0
 RunExplains x edges grammar show after edges_rose grammar_rose disk_rose out_rose Done = Accepts x edges grammar
 RunExplains x edges grammar show after edges_rose grammar_rose disk_rose out_rose

@@ -21,7 +21,8 @@ use Rattle.graspan_top.specs.Given.{Given, WhereTold}
 use Rattle.graspan_top.specs.Looking.{HasCurrent}
 use Rattle.graspan_top.specs.Run.{Accepts, IsGoodGrammar, IsOpenedAs, done_line}
 use Rattle.graspan_top.specs.declared.status.Status.{Status}
-use Rattle.graspan_top.specs.declared.status.Status.TheVariants.{Done, InputFault, ReadFault, DiskFault, WriteFault, NoMemory, BadStore, NoStore, Unfinished, NotKnown}
+use Rattle.graspan_top.specs.declared.status.Status.TheVariants.{Done, InputFault, ReadFault, DiskFault, WriteFault}
+use Rattle.graspan_top.specs.declared.status.Status.TheVariants.{NoMemory, BadStore, NoStore, Unfinished, NotKnown}
 
 -- a good grammar was read, which is the file where it is told
 pub record IsGrammarFile (told : Option (List ℕ)) (text : List ℕ) : Type 0 where
@@ -43,7 +44,8 @@ IsCopied told tells copy = WhereTold told (λ file. IsTrue tells → file ≡ co
 abbrev pub DiffersFrom : Option (List ℕ) → Bool → List ℕ → ℕ → Type 0
 DiffersFrom told tells copy place = WhereTold told (λ file. IsTrue tells → DiffersFirst file copy place)
 
--- why the files were not found to be a store's copies: a read failed, of the grammar or of the edges, or the disk; or one of them differs, the grammar being compared first
+-- why the files were not found to be a store's copies: a read failed, of the grammar or of the edges, or the disk;
+-- or one of them differs, the grammar being compared first
 abbrev pub CompareExplains : Option (List ℕ) → Option (List ℕ) → Bool → Contents → Manifest → Type 0 → Type 0 → Type 0 → StoreFault → Type 0
 CompareExplains grammar edges tells seen m grammar_rose edges_rose disk_rose stores.ReadFault = grammar_rose ⊎ edges_rose
 CompareExplains grammar edges tells seen m grammar_rose edges_rose disk_rose stores.DiskFault = disk_rose
@@ -93,5 +95,5 @@ abbrev pub IsShowBegun : OpenStore → Bool → Contents → Option LabelId → 
 IsShowBegun s tells c shown text =
     ((read : List (List Born)) × AreRead s tells c 0 read × (text ≡ head_text s.manifest ++ tally_text s.manifest.labels (all_edges read)))
     ⊎ ((parts : List (List Born)) × AreListedIn s c parts
-        × (text ≡ head_text s.manifest ++ (tally_text s.manifest.labels (all_edges parts)
-        ++ (shown_text shown (all_edges parts) ++ done_line))))
+    × (text ≡ head_text s.manifest ++ (tally_text s.manifest.labels (all_edges parts)
+    ++ (shown_text shown (all_edges parts) ++ done_line))))

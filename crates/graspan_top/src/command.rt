@@ -2,18 +2,17 @@
 ghost use Rattle.std.specs.Prelude.{◌≡◌, ◌≢◌, true, false, ◌⊎◌, ◌≤◌, ℕ, List, Option, Some, IsTrue, OnOk};
 ghost use Rattle.io_edge.specs.Devices.{Rose};
 ghost use Rattle.io_edge.specs.View.{NoCountFalls};
-ghost use Rattle.disk_model.specs.Disk.{Contents, Rose as DiskRose};
+ghost use Rattle.disk_model.specs.Disk.{Contents};
 ghost use Rattle.disk_model.specs.View.{OnlyLooks};
 ghost use Rattle.store_law.specs.Left.{IsLeft};
 ghost use Rattle.store_law.specs.Listed.{AreExact};
 ghost use Rattle.store.specs.Import.{texts_of};
-ghost use Rattle.closer.specs.declared.options.RunOptions.{RunOptions as TheOptions};
+ghost use Rattle.closing_options.specs.declared.RunOptions.{RunOptions as TheOptions};
 ghost use Rattle.command_words.specs.Command.{Reading, Said, run as runs, said};
 ghost use Rattle.graspan_top.specs.declared.status.Status.TheVariants.{Done, NoMemory, Words, WriteFault};
-ghost use Rattle.graspan_top.specs.Command.{Explains, IsBegunOf, IsLook, IsTextOf};
-ghost use Rattle.graspan_top.specs.Given.{Given as AGiven};
-ghost use Rattle.graspan_top.specs.Run.{StopsLeave};
-ghost use Rattle.graspan_top.specs.Printing.{Begins, BeginsWhole, Ends as EndsAs, Prints, PrintsFirst, status_of as the_status};
+ghost use Rattle.graspan_top.specs.Call.{AreUnread, IsExplained, IsPrinted, LeavesClosure, MayBeStopped, RefusesWords, the_call};
+ghost use Rattle.graspan_top.specs.Command.{IsBegunOf, IsLook, IsTextOf};
+ghost use Rattle.graspan_top.specs.Printing.{Begins, Ends as EndsAs, PrintsFirst, status_of as the_status};
 
 use crate::looking::{Ends, dump, parts, query};
 use crate::print::print_fault;
@@ -33,9 +32,7 @@ fn carry_out<I: Inputs, D: Disk, O: Sink>(
     disk: &mut D,
     out: &mut O,
 ) -> Result<(), Status>
-    ensures explained { Explains (record { told = I.told inputs.old; tells = D.tells; before = D.seen disk.old })
-        (D.seen disk.new) (λ name. Rose (I.faults inputs.old name) (I.faults inputs.new name))
-        (DiskRose (D.faults disk.old) (D.faults disk.new)) (Rose (O.faults out.old) (O.faults out.new))
+    ensures explained { IsExplained (the_call I.Inputs D.Disk O.Sink inputs.old inputs.new disk.old disk.new out.old out.new)
         (said command.entry) (the_status result) }
     ensures printed { PrintsFirst D.tells (IsTextOf (D.seen disk.new) (said command.entry)) (O.told out.old) (O.told out.new) (the_status result) }
     ensures begun { Begins D.tells (IsBegunOf (D.seen disk.new) (said command.entry)) (O.told out.old) (O.told out.new) (the_status result) }
@@ -44,10 +41,10 @@ fn carry_out<I: Inputs, D: Disk, O: Sink>(
         → I.told inputs.old grammar ≡ Some g → I.told inputs.old edges ≡ Some e
         → IsLeft (texts_of g e) (D.seen disk.old)
         → the_status result ≡ Done → AreExact (texts_of g e) (D.seen disk.new)
-            × ((c : Contents) → D.may_leave disk.new c → AreExact (texts_of g e) c) }
+        × ((c : Contents) → D.may_leave disk.new c → AreExact (texts_of g e) c) }
     ensures stops { (edges grammar : List ℕ) (options : TheOptions) (show : Option (List ℕ))
         → said command.entry ≡ runs edges grammar options show
-        → StopsLeave D.may_leave D.moment D.left_since (I.told inputs.old) edges grammar disk.old disk.new }
+        → MayBeStopped D.Disk (I.told inputs.old) edges grammar disk.old disk.new }
     ensures looks { IsLook (said command.entry) → OnlyLooks D.Disk disk.old disk.new }
     ensures kept { I.told inputs.new ≡ I.told inputs.old }
     ensures others { NoCountFalls I.Inputs inputs.old inputs.new }
@@ -130,43 +127,31 @@ pub fn graspan<I: Inputs, D: Disk, O: Sink>(
     out: &mut O,
 ) -> Status
     // Words are refused exactly where they have no reading, and then nothing is looked at.
-    ensures words { result ≡ Words → (c : Said) → Reading words.now c → ⊥ }
-    ensures unread { ((c : Said) → Reading words.now c → ⊥) → ((result ≡ Words) ⊎ (result ≡ NoMemory))
-        × (inputs.new ≡ inputs.old) × (disk.new ≡ disk.old)
-        × EndsAs (O.told out.old) (O.told out.new) (Rose (O.faults out.old) (O.faults out.new)) result }
+    ensures words { (result ≡ Words → AreUnread words.now)
+        × (AreUnread words.now → (inputs.new ≡ inputs.old) × (disk.new ≡ disk.old)
+        × RefusesWords (the_call I.Inputs D.Disk O.Sink inputs.old inputs.new disk.old disk.new out.old out.new) result) }
 
     // Else each answer has its cause in the files, in what the disk holds, or in a count of faults.
     ensures explained { (c : Said) → Reading words.now c
-        → Explains (record { told = I.told inputs.old; tells = D.tells; before = D.seen disk.old })
-        (D.seen disk.new) (λ name. Rose (I.faults inputs.old name) (I.faults inputs.new name))
-        (DiskRose (D.faults disk.old) (D.faults disk.new)) (Rose (O.faults out.old) (O.faults out.new)) c result }
+        → IsExplained (the_call I.Inputs D.Disk O.Sink inputs.old inputs.new disk.old disk.new out.old out.new) c result }
 
-    // The command's text is printed at Done, and a prefix of it or nothing before the line of a fault.
+    // The command's text is printed at Done, and a prefix of one that it has or nothing before the line of a fault.
     ensures printed { (c : Said) → Reading words.now c
-        → Prints D.tells (IsTextOf (D.seen disk.new) c) (O.told out.old) (O.told out.new)
-        (Rose (O.faults out.old) (O.faults out.new)) result }
-
-    // Also of a store whose partitions can't be read, no more stands there than the front of a text that it has.
-    ensures begun { (c : Said) → Reading words.now c
-        → BeginsWhole D.tells (IsBegunOf (D.seen disk.new) c) (O.told out.old) (O.told out.new)
-        (Rose (O.faults out.old) (O.faults out.new)) result }
+        → IsPrinted (the_call I.Inputs D.Disk O.Sink inputs.old inputs.new disk.old disk.new out.old out.new) c result }
 
     // Where the disk held what stopped runs of these files leave, or nothing, a run that is done leaves exactly the closure.
     ensures exact { (edges grammar : List ℕ) (options : TheOptions) (show : Option (List ℕ))
-        → Reading words.now (runs edges grammar options show) → IsTrue D.tells → (g e : List ℕ)
-        → I.told inputs.old grammar ≡ Some g → I.told inputs.old edges ≡ Some e
-        → IsLeft (texts_of g e) (D.seen disk.old)
-        → result ≡ Done → AreExact (texts_of g e) (D.seen disk.new) × ((c : Contents) → D.may_leave disk.new c → AreExact (texts_of g e) c) }
+        → Reading words.now (runs edges grammar options show) → result ≡ Done
+        → LeavesClosure D.Disk (I.told inputs.old) edges grammar disk.old disk.new }
 
     // A run that is stopped at any moment, also within a write, leaves what a later run goes on from.
     ensures stops { (edges grammar : List ℕ) (options : TheOptions) (show : Option (List ℕ))
         → Reading words.now (runs edges grammar options show)
-        → StopsLeave D.may_leave D.moment D.left_since (I.told inputs.old) edges grammar disk.old disk.new }
+        → MayBeStopped D.Disk (I.told inputs.old) edges grammar disk.old disk.new }
 
-    // The other commands change nothing.
+    // The other commands change nothing, and no file that is read changes.
     ensures looks { (c : Said) → Reading words.now c → IsLook c → OnlyLooks D.Disk disk.old disk.new }
-    ensures kept { I.told inputs.new ≡ I.told inputs.old }
-    ensures later { D.faults disk.old ≤ D.faults disk.new }
+    ensures kept { (I.told inputs.new ≡ I.told inputs.old) × (D.faults disk.old ≤ D.faults disk.new) }
 {
     match read_command(alloc, words) {
         Ok(command) => {

@@ -10,7 +10,9 @@ ghost use Rattle.open_store.specs.Store.{IsHeld};
 ghost use Rattle.query_text.specs.Text.{answers_in, answers_text};
 ghost use Rattle.query_text.specs.Answered.{HasAnswerCause, IsBlamed, IsPrinted, first_asked};
 ghost use Rattle.graspan_top.specs.declared.status.Status.TheVariants.{NotKnown, Unfinished};
-ghost use Rattle.graspan_top.specs.Looking.{AreVerticesOf, DumpExplains, IsDumpFront, IsDumpText, IsPartsText, IsQueryText, IsUnfinished, PartsExplains, QueryExplains, count_line as the_count_line, none_undone};
+ghost use Rattle.graspan_top.specs.Looking.{AreVerticesOf, DumpExplains, IsDumpFront, IsDumpText, IsPartsText};
+ghost use Rattle.graspan_top.specs.Looking.{IsQueryText, IsUnfinished, PartsExplains, QueryExplains};
+ghost use Rattle.graspan_top.specs.Looking.{count_line as the_count_line, none_undone};
 ghost use Rattle.graspan_top.specs.Printing.{Begins, IsNothingOr, PrintsFirst, status_of};
 ghost use Rattle.graspan_top.specs.Stages.{FindExplains};
 
@@ -145,8 +147,8 @@ fn print_query<D: Disk, O: Sink>(
     requires { ends.from < store.now.manifest.vertices }
     ensures printed { (read : List (List ABorn)) × IsPrinted store.now D.tells (D.seen disk.old) (first_asked store.now (Some ends.from)) 1
         (λ edges. answers_text label (Some ends.from) ends.to edges
-            ++ the_count_line (length (answers_in label (Some ends.from) ends.to edges))) (O.told out.old)
-            (O.told out.new) result read × (length read ≡ 0 → AppendsPrefix (O.told out.old) (O.told out.new) []) }
+        ++ the_count_line (length (answers_in label (Some ends.from) ends.to edges))) (O.told out.old)
+        (O.told out.new) result read × (length read ≡ 0 → AppendsPrefix (O.told out.old) (O.told out.new) []) }
     ensures looks { OnlyLooks D.Disk disk.old disk.new }
     ensures later { D.faults disk.old ≤ D.faults disk.new }
     ensures writes { O.faults out.old ≤ O.faults out.new }

@@ -9,7 +9,8 @@ ghost use Rattle.open_store.specs.Answers.{copy_of};
 ghost use Rattle.graspan_top.specs.declared.status.Status.TheVariants.{Done};
 ghost use Rattle.graspan_top.specs.Faults.{of_store};
 ghost use Rattle.graspan_top.specs.Given.{Given as AGiven};
-ghost use Rattle.graspan_top.specs.Run.{BeginsWith, RunExplains, StopsLeave};
+ghost use Rattle.graspan_top.specs.Run.{BeginsWith, RunExplains};
+ghost use Rattle.graspan_top.specs.Call.{MayBeStopped};
 ghost use Rattle.graspan_top.specs.Stages.{CompareExplains, IsCopied, IsGrammarFile, IsReady};
 
 use crate::grammar_file::read_grammar_file;
@@ -40,8 +41,8 @@ fn compare<I: Inputs, D: Disk>(
     ensures cause { IfErr result (CompareExplains (I.told inputs.old files.now.grammar.now)
         (I.told inputs.old files.now.edges.now) D.tells (D.seen disk.old) store.now.manifest
         (Rose (I.faults inputs.old files.now.grammar.now) (I.faults inputs.new files.now.grammar.now))
-            (Rose (I.faults inputs.old files.now.edges.now) (I.faults inputs.new files.now.edges.now))
-            (DiskRose (D.faults disk.old) (D.faults disk.new))) }
+        (Rose (I.faults inputs.old files.now.edges.now) (I.faults inputs.new files.now.edges.now))
+        (DiskRose (D.faults disk.old) (D.faults disk.new))) }
     ensures looks { OnlyLooks D.Disk disk.old disk.new }
     ensures kept { I.told inputs.new ≡ I.told inputs.old }
     ensures others { NoCountFalls I.Inputs inputs.old inputs.new }
@@ -78,9 +79,9 @@ fn found_or_made<I: Inputs, D: Disk>(
         → RunExplains (record { told = I.told inputs.old; tells = D.tells; before = D.seen disk.old })
         files.now.edges.now files.now.grammar.now show after
         (Rose (I.faults inputs.old files.now.edges.now) (I.faults inputs.new files.now.edges.now))
-            (Rose (I.faults inputs.old files.now.grammar.now) (I.faults inputs.new files.now.grammar.now))
-            (DiskRose (D.faults disk.old) (D.faults disk.new)) ⊥ (of_store fault)) }
-    ensures stops { StopsLeave D.may_leave D.moment D.left_since (I.told inputs.old) files.now.edges.now files.now.grammar.now disk.old disk.new }
+        (Rose (I.faults inputs.old files.now.grammar.now) (I.faults inputs.new files.now.grammar.now))
+        (DiskRose (D.faults disk.old) (D.faults disk.new)) ⊥ (of_store fault)) }
+    ensures stops { MayBeStopped D.Disk (I.told inputs.old) files.now.edges.now files.now.grammar.now disk.old disk.new }
     ensures kept { I.told inputs.new ≡ I.told inputs.old }
     ensures others { NoCountFalls I.Inputs inputs.old inputs.new }
     ensures later { D.faults disk.old ≤ D.faults disk.new }
@@ -112,10 +113,10 @@ pub(crate) fn ready_store<I: Inputs, D: Disk>(
         → RunExplains (record { told = I.told inputs.old; tells = D.tells; before = D.seen disk.old })
         files.now.edges.now files.now.grammar.now show after
         (Rose (I.faults inputs.old files.now.edges.now) (I.faults inputs.new files.now.edges.now))
-            (Rose (I.faults inputs.old files.now.grammar.now) (I.faults inputs.new files.now.grammar.now))
-            (DiskRose (D.faults disk.old) (D.faults disk.new)) ⊥ fault) }
+        (Rose (I.faults inputs.old files.now.grammar.now) (I.faults inputs.new files.now.grammar.now))
+        (DiskRose (D.faults disk.old) (D.faults disk.new)) ⊥ fault) }
     ensures fails { IfErr result (λ fault. fault ≢ Done) }
-    ensures stops { StopsLeave D.may_leave D.moment D.left_since (I.told inputs.old) files.now.edges.now files.now.grammar.now disk.old disk.new }
+    ensures stops { MayBeStopped D.Disk (I.told inputs.old) files.now.edges.now files.now.grammar.now disk.old disk.new }
     ensures kept { I.told inputs.new ≡ I.told inputs.old }
     ensures others { NoCountFalls I.Inputs inputs.old inputs.new }
     ensures later { D.faults disk.old ≤ D.faults disk.new }

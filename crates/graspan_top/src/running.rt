@@ -15,13 +15,15 @@ ghost use Rattle.query_text.specs.Answered.{AreListedIn, HasAnswerCause, IsBlame
 ghost use Rattle.graspan_top.specs.declared.status.Status.TheVariants.{Done};
 ghost use Rattle.graspan_top.specs.Given.{Given as AGiven};
 ghost use Rattle.graspan_top.specs.Printing.{Begins, IsNothingOr, PrintsFirst, status_of};
-ghost use Rattle.graspan_top.specs.Run.{IsRunBegun, IsRunText, RunExplains, StopsLeave, done_line};
+ghost use Rattle.graspan_top.specs.Run.{IsRunBegun, IsRunText, RunExplains, done_line};
+ghost use Rattle.graspan_top.specs.Call.{MayBeStopped};
 ghost use Rattle.graspan_top.specs.Stages.{IsReady, IsShowBegun, ShowExplains, shown_text};
 
 use crate::labels::shown_number;
 use crate::readying::{Files, ready_store};
 use crate::status::Status;
-use closer::{RunOptions, run_to_end};
+use closer::run_to_end;
+use closing_options::RunOptions;
 use disk_model::Disk;
 use graph_words::LabelId;
 use io_edge::{Inputs, Sink};
@@ -64,8 +66,8 @@ fn print_run<D: Disk, O: Sink>(
 ) -> Result<(), AnswerFault>
     ensures printed { IsTrue D.tells → (parts : List (List ABorn)) → AreListedIn store.now (D.seen disk.old) parts
         → Takes (O.told out.old) (O.told out.new) result
-            (head_text store.now.manifest ++ (tally_text store.now.manifest.labels (all_edges parts)
-            ++ (shown_text shown (all_edges parts) ++ done_line))) }
+        (head_text store.now.manifest ++ (tally_text store.now.manifest.labels (all_edges parts)
+        ++ (shown_text shown (all_edges parts) ++ done_line))) }
     ensures begun { IsTrue D.tells → OnErr result
         ((text : List ℕ) × IsShowBegun store.now D.tells (D.seen disk.old) shown text
         × AppendsPrefix (O.told out.old) (O.told out.new) text) }
@@ -124,10 +126,10 @@ fn closed_store<I: Inputs, D: Disk>(
         → RunExplains (record { told = I.told inputs.old; tells = D.tells; before = D.seen disk.old })
         files.now.edges.now files.now.grammar.now show after
         (Rose (I.faults inputs.old files.now.edges.now) (I.faults inputs.new files.now.edges.now))
-            (Rose (I.faults inputs.old files.now.grammar.now) (I.faults inputs.new files.now.grammar.now))
-            (DiskRose (D.faults disk.old) (D.faults disk.new)) ⊥ fault) }
+        (Rose (I.faults inputs.old files.now.grammar.now) (I.faults inputs.new files.now.grammar.now))
+        (DiskRose (D.faults disk.old) (D.faults disk.new)) ⊥ fault) }
     ensures fails { IfErr result (λ fault. fault ≢ Done) }
-    ensures stops { StopsLeave D.may_leave D.moment D.left_since (I.told inputs.old) files.now.edges.now files.now.grammar.now disk.old disk.new }
+    ensures stops { MayBeStopped D.Disk (I.told inputs.old) files.now.edges.now files.now.grammar.now disk.old disk.new }
     ensures kept { I.told inputs.new ≡ I.told inputs.old }
     ensures others { NoCountFalls I.Inputs inputs.old inputs.new }
     ensures later { D.faults disk.old ≤ D.faults disk.new }
@@ -149,9 +151,9 @@ pub(crate) fn run<I: Inputs, D: Disk, O: Sink>(
     ensures explained { RunExplains (record { told = I.told inputs.old; tells = D.tells; before = D.seen disk.old })
         files.now.edges.now files.now.grammar.now (option_map (λ l. l.now) show.entry) (D.seen disk.new)
         (Rose (I.faults inputs.old files.now.edges.now) (I.faults inputs.new files.now.edges.now))
-            (Rose (I.faults inputs.old files.now.grammar.now) (I.faults inputs.new files.now.grammar.now))
-            (DiskRose (D.faults disk.old) (D.faults disk.new)) (Rose (O.faults out.old) (O.faults out.new))
-            (status_of result) }
+        (Rose (I.faults inputs.old files.now.grammar.now) (I.faults inputs.new files.now.grammar.now))
+        (DiskRose (D.faults disk.old) (D.faults disk.new)) (Rose (O.faults out.old) (O.faults out.new))
+        (status_of result) }
     ensures printed { PrintsFirst D.tells (IsRunText (D.seen disk.new) (option_map (λ l. l.now) show.entry))
         (O.told out.old) (O.told out.new) (status_of result) }
     ensures begun { Begins D.tells (IsNothingOr (IsRunBegun (D.seen disk.new) (option_map (λ l. l.now) show.entry)))
@@ -160,7 +162,7 @@ pub(crate) fn run<I: Inputs, D: Disk, O: Sink>(
         → I.told inputs.old files.now.edges.now ≡ Some e → IsLeft (texts_of g e) (D.seen disk.old)
         → status_of result ≡ Done
         → AreExact (texts_of g e) (D.seen disk.new) × ((c : Contents) → D.may_leave disk.new c → AreExact (texts_of g e) c) }
-    ensures stops { StopsLeave D.may_leave D.moment D.left_since (I.told inputs.old) files.now.edges.now files.now.grammar.now disk.old disk.new }
+    ensures stops { MayBeStopped D.Disk (I.told inputs.old) files.now.edges.now files.now.grammar.now disk.old disk.new }
     ensures kept { I.told inputs.new ≡ I.told inputs.old }
     ensures others { NoCountFalls I.Inputs inputs.old inputs.new }
     ensures later { D.faults disk.old ≤ D.faults disk.new }

@@ -13,6 +13,7 @@ use Rattle.import_text.specs.Tally.{Tallied, TakesPiece, TakesEnd}
 use Rattle.io_edge.specs.declared.kinds.InputKind.{InputKind}
 use Rattle.edge_text.specs.declared.edges.EdgesFault.{EdgesFault}
 use Rattle.edge_text.specs.declared.edges.EdgesFault.TheVariants as edges
+use Rattle.import_text.specs.declared.fault.TextFault.{TextFault}
 use Rattle.import_text.specs.declared.fault.TextFault.TheVariants as faults
 use Rattle.import_text.specs.Copying.{CopiesBehind, HasCauseIn, copying_fault}
 use Rattle.import_text.proofs.DegreeLemmas.{AreDegrees-none, AreDegrees-then}
@@ -36,6 +37,13 @@ pub copying_text : (f : EdgesFault) (line : ℕ) (kind : InputKind) → copying_
 copying_text edges.ReadFailed line kind is = absurd (cc)
 copying_text (edges.Text l k) line kind is = cc
 copying_text edges.NoMemory line kind is = absurd (cc)
+
+-- a disk that failed is no fault of the text
+pub disk_no_text : (f : TextFault) (line : ℕ) (kind : InputKind) → f ≡ faults.DiskFault → f ≡ faults.Text line kind → ⊥
+disk_no_text faults.ReadFault line kind failed is = absurd (cc)
+disk_no_text faults.DiskFault line kind failed is = absurd (cc)
+disk_no_text (faults.Text l k) line kind failed is = absurd (cc)
+disk_no_text _ line kind failed is = absurd (cc)
 
 -- a reader that reads nothing itself leaves no cause open
 pub copying_cause : (f : EdgesFault) (reads reads' calls calls' : ℕ) → f ≢ edges.ReadFailed → HasCauseIn reads reads' calls calls' (copying_fault f)

@@ -20,7 +20,8 @@ copying_fault edges.NoMemory = faults.NoMemory
 
 -- A text without a fault was read behind these names; it is the file where that is told, and all that the disk's file has where that is told.
 -- It has this length, and its edges, by the numbers of the labels, begin so often at each vertex.
-pub record CopiesBehind (names : List (List ℕ)) (told : Option (List ℕ)) (tells : Type 0) (file : ℕ) (old new : Contents) (len : ℕ) (degrees : List ℕ) (labels : List (List ℕ)) : Type 0 where
+pub record CopiesBehind (names : List (List ℕ)) (told : Option (List ℕ)) (tells : Type 0) (file : ℕ)
+    (old new : Contents) (len : ℕ) (degrees : List ℕ) (labels : List (List ℕ)) : Type 0 where
   pub text : List ℕ
   pub edges : List Edge
   pub reads : ReadsEdges 0 names text edges labels

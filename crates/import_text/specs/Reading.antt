@@ -36,7 +36,8 @@ pub record IsGoodCopy (labels : List (List ℕ)) (len vertices : ℕ) (text : Li
   pub few : vertex_count_of (edges_of labels text) ≤ vertices
 
 -- a good copy was read, which is the file where that is told, and just what it gives in the interval is listed
-pub record GathersCopy (n : Normal) (labels : List (List ℕ)) (len vertices lo hi : ℕ) (tells : Type 0) (file : List ℕ) (given : List Edge) : Type 0 where
+pub record GathersCopy (n : Normal) (labels : List (List ℕ)) (len vertices lo hi : ℕ) (tells : Type 0)
+    (file : List ℕ) (given : List Edge) : Type 0 where
   pub text : List ℕ
   pub good : IsGoodCopy labels len vertices text
   pub is_file : tells → text ≡ file

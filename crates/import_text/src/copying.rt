@@ -7,7 +7,7 @@ ghost use Rattle.graph_words.specs.Text.{distinct};
 ghost use Rattle.edge_text.specs.EdgesText.{edges_fault};
 ghost use Rattle.edge_text.specs.Feeding.{IsFed};
 ghost use Rattle.disk_model.specs.View.{LeavesBy};
-ghost use Rattle.disk_files.specs.Files.{OnlyFile};
+ghost use Rattle.disk_model.specs.OneFile.{OnlyFile};
 ghost use Rattle.import_text.specs.Copying.{CopiesFile, CopiesBehind, AreFew, HasCauseIn};
 
 use crate::fault::TextFault;
@@ -49,11 +49,11 @@ fn copy_pieces<I: Inputs, D: Disk>(
     requires small { length piece.old ≤ 65536 }
     ensures copied { IfOk result (λ len. (names : List (List ℕ)) → IsFed 0 names [] tally.old.reader []
         → CopiesBehind names (I.told inputs.old name.now) (IsTrue D.tells) file (D.seen disk.old)
-            (D.seen disk.new) len tally.new.degrees tally.new.reader.table) }
+        (D.seen disk.new) len tally.new.degrees tally.new.reader.table) }
     ensures few { OnOk result ((length tally.new.degrees ≤ 16777216) × (sum tally.new.degrees < 2 ^ 64)) }
     ensures fault { IfErr result (λ e. (line : ℕ) (kind : AKind) (text : List ℕ) (names : List (List ℕ)) → e ≡ TextFault.Text line kind
         → I.told inputs.old name.now ≡ Some text → IsFed 0 names [] tally.old.reader []
-            → edges_fault 0 names text ≡ Some (record { line = line; kind = kind })) }
+        → edges_fault 0 names text ≡ Some (record { line = line; kind = kind })) }
     ensures cause { IfErr result (HasCauseIn (I.faults inputs.old name.now) (I.faults inputs.new name.now) (D.faults disk.old) (D.faults disk.new)) }
     ensures any_moment { LeavesBy D.Disk disk.old disk.new (OnlyFile file) }
     ensures kept { I.told inputs.new ≡ I.told inputs.old }

@@ -76,7 +76,7 @@ impl Gathering {
         ensures fault { IfErr result (λ e. (line : ℕ) (kind : AKind) → e ≡ EdgesFault.Text line kind
             → (names : List (List ℕ)) (text : List ℕ) (front : List AnEdge)
             → IsFed 0 names text self.old.reader front → (later : List ℕ)
-                → edges_fault 0 names ((text ++ piece.now) ++ later) ≡ Some (record { line = line; kind = kind })) }
+            → edges_fault 0 names ((text ++ piece.now) ++ later) ≡ Some (record { line = line; kind = kind })) }
     {
         self.found.clear();
         self.reader.feed(piece, &mut self.found)?;

@@ -6,7 +6,8 @@ ghost use Rattle.normal_law.specs.NormalForm.{normal_form};
 ghost use Rattle.edge_text.specs.EdgesText.{edges_fault};
 ghost use Rattle.edge_text.specs.Feeding.{IsFed};
 ghost use Rattle.partition_file.specs.Spelling.{Fits};
-ghost use Rattle.import_text.specs.Reading.{reading_fault as fault_of_reading, GathersFile, GathersCopy, GivesPart, IsGoodCopy, HasCauseOn, expect_given};
+ghost use Rattle.import_text.specs.Reading.{reading_fault as fault_of_reading, GathersFile, GathersCopy, GivesPart};
+ghost use Rattle.import_text.specs.Reading.{IsGoodCopy, HasCauseOn, expect_given};
 
 use crate::copying::PIECE_LEN;
 use crate::fault::TextFault;

@@ -1,8 +1,11 @@
 -- Reading a manifest's body field by field, from left to right, up to the first field that breaks its rule.
-use Rattle.std.specs.Prelude.{◌≡◌, ℕ, zero, suc, ◌+◌, ◌-◌, ◌*◌, Bool, not, nat_lt, if◌then◌else◌, List, [], ◌∷◌, ◌++◌, length, drop, take, replicate, Option, Some, None, Result, Ok, Err}
+use Rattle.std.specs.Prelude.{◌≡◌, ℕ, zero, suc, ◌+◌, ◌-◌, ◌*◌, Bool, not, nat_lt, if◌then◌else◌, List, [], ◌∷◌}
+use Rattle.std.specs.Prelude.{◌++◌, length, drop, take, replicate, Option, Some, None, Result, Ok, Err}
 use Rattle.byteorder.specs.Endian.{little_number}
 use Rattle.disk_model.specs.declared.form_kind.FormKind.{FormKind}
-use Rattle.disk_model.specs.declared.form_kind.FormKind.TheVariants.{BadMagic, Short, BadNumber, BadLabel, RepeatedLabel, BadParts, BadFile, BadCount, BadMark}
+use Rattle.disk_model.specs.declared.form_kind.FormKind.TheVariants.{BadMagic, Short, BadNumber, BadLabel}
+use Rattle.disk_model.specs.declared.form_kind.FormKind.TheVariants.{RepeatedLabel, BadParts, BadFile, BadCount}
+use Rattle.disk_model.specs.declared.form_kind.FormKind.TheVariants.{BadMark}
 use Rattle.graph_words.specs.Text.{is_label_word}
 use Rattle.label_table.specs.Names.{has_name}
 use Rattle.manifest_codec.specs.declared.types.PartEntry.{PartEntry}
@@ -16,7 +19,9 @@ use Rattle.manifest_codec.specs.declared.types.FieldError.TheVariants as errors
 use Rattle.manifest_codec.specs.declared.types.ManifestFault.{ManifestFault}
 use Rattle.manifest_codec.specs.declared.types.ManifestError.{ManifestError}
 use Rattle.manifest_codec.specs.declared.types.ManifestError.TheVariants as faults
-use Rattle.manifest_codec.specs.Rules.{newest_version, is_magic, is_generation, is_round, is_vertices, is_grammar_len, is_edges_len, is_label_count, is_part_count, is_end, is_file, is_newest, at_most, widths, count_limits, is_reached}
+use Rattle.manifest_codec.specs.Rules.{newest_version, is_magic, is_generation, is_round, is_vertices}
+use Rattle.manifest_codec.specs.Rules.{is_grammar_len, is_edges_len, is_label_count, is_part_count, is_end, is_file}
+use Rattle.manifest_codec.specs.Rules.{is_newest, at_most, widths, count_limits, is_reached}
 
 infixl 10 ◌>>=◌
 abbrev pub ◌>>=◌ : {A B : Type 0} → Result A Broken → (A → Result B Broken) → Result B Broken
@@ -54,8 +59,17 @@ head_at First bytes = do
   vertices ← field_at 4 is_vertices BadNumber round.1
   grammar ← field_at 8 is_grammar_len BadNumber vertices.1
   edges ← field_at 8 is_edges_len BadNumber grammar.1
-  Ok (record { generation = generation.0; round = round.0; vertices = vertices.0; grammar_len = grammar.0;
-      edges_len = edges.0; first_len = edges.0 }, edges.1)
+  Ok (
+    record {
+      generation = generation.0;
+      round = round.0;
+      vertices = vertices.0;
+      grammar_len = grammar.0;
+      edges_len = edges.0;
+      first_len = edges.0;
+    },
+    edges.1,
+  )
 
 -- a label behind those before: a length, and as many bytes, are one field
 unfoldable pub label_at : List (List ℕ) → List ℕ → Read (List (List ℕ))

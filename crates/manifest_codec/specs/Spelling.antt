@@ -15,8 +15,14 @@ use Rattle.manifest_codec.specs.Rules.{widths, magic_of}
 
 -- the numbers in front
 abbrev pub head_of : Manifest → Head
-head_of m = record { generation = m.generation; round = m.round; vertices = m.vertices; grammar_len = m.grammar_len;
-    edges_len = m.edges_len; first_len = m.first_len }
+head_of m = record {
+  generation = m.generation;
+  round = m.round;
+  vertices = m.vertices;
+  grammar_len = m.grammar_len;
+  edges_len = m.edges_len;
+  first_len = m.first_len;
+}
 
 -- the greatest birth of each partition
 abbrev pub newest_in : Manifest → List ℕ

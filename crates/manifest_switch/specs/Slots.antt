@@ -1,5 +1,6 @@
 -- Two slots, each with a gate and a body behind it, and which of them is current.
-use Rattle.std.specs.Prelude.{◌≡◌, ◌≢◌, ℕ, ◌+◌, ◌%◌, ◌<◌, Bool, false, ◌&&◌, ◌||◌, nat_lt, nat_eq, if◌then◌else◌, ◌==◌, List, [], ◌∷◌, length, drop, slice_index, Option, Some, None, Result, Ok, Err}
+use Rattle.std.specs.Prelude.{◌≡◌, ◌≢◌, ℕ, ◌+◌, ◌%◌, ◌<◌, Bool, false, ◌&&◌, ◌||◌, nat_lt, nat_eq, if◌then◌else◌}
+use Rattle.std.specs.Prelude.{◌==◌, List, [], ◌∷◌, length, drop, slice_index, Option, Some, None, Result, Ok, Err}
 use Rattle.disk_model.specs.Disk.{Contents, written}
 use Rattle.disk_model.specs.declared.form_kind.FormKind.TheVariants.{Generations}
 use Rattle.manifest_codec.specs.declared.types.Manifest.{Manifest}

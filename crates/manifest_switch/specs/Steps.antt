@@ -48,7 +48,8 @@ pub record IsMade (seen : Contents) (m : Manifest) (c : Contents) : Type 0 where
   pub current : current_of c ≡ Ok (At slot m)
   pub others : (f : ℕ) → f ≢ 0 → f ≢ 1 → c f ≡ seen f
 
--- what a switch makes of an image: it leaves what is current, and all files but the slots; or this manifest is current, and all files but the slots are as a read gave them, since it is made only behind a sync
+-- what a switch makes of an image: it leaves what is current, and all files but the slots; or this manifest is
+-- current, and all files but the slots are as a read gave them, since it is made only behind a sync
 abbrev pub Switches : Contents → Manifest → Contents → Contents → Type 0
 Switches seen m old new = Stays old new ⊎ IsMade seen m new
 

@@ -1,5 +1,7 @@
 //! Which slot is current.
-ghost use Rattle.std.specs.Prelude.{◌≡◌, ◌≢◌, ◌⊎◌, ◌+◌, ◌-◌, ◌<◌, ◌≤◌, ◌^◌, ◌==◌, slice_index, ℕ, Bool, IsTrue, true, false, length, take, drop, Option, Some, None, Ok, Err, OnOk, IfOk, IfSome, option_map};
+ghost use Rattle.std.specs.Prelude.{◌≡◌, ◌≢◌, ◌⊎◌, ◌+◌, ◌-◌, ◌<◌, ◌≤◌, ◌^◌, ◌==◌, slice_index, ℕ, Bool, IsTrue};
+ghost use Rattle.std.specs.Prelude.{true, false, length, take, drop, Option, Some, None, Ok, Err, OnOk, IfOk};
+ghost use Rattle.std.specs.Prelude.{IfSome, option_map};
 ghost use Rattle.disk_model.specs.Disk.{Contents, HasCause};
 ghost use Rattle.disk_model.specs.View.{OnlyLooks};
 ghost use Rattle.manifest_codec.specs.Reading.{reading};

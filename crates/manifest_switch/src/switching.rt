@@ -1,5 +1,6 @@
 //! The switch from one slot to the other.
-ghost use Rattle.std.specs.Prelude.{◌≡◌, ◌≢◌, ◌⊎◌, ◌+◌, ◌%◌, ◌<◌, ◌≤◌, ◌∷◌, [], ℕ, Bool, IsTrue, true, false, length, Option, Some, None, Ok, Err, OnOk, IfOk, IsErrOf};
+ghost use Rattle.std.specs.Prelude.{◌≡◌, ◌≢◌, ◌⊎◌, ◌+◌, ◌%◌, ◌<◌, ◌≤◌, ◌∷◌, [], ℕ, Bool, IsTrue, true, false};
+ghost use Rattle.std.specs.Prelude.{length, Option, Some, None, Ok, Err, OnOk, IfOk, IsErrOf};
 ghost use Rattle.disk_model.specs.Disk.{Contents};
 ghost use Rattle.disk_model.specs.Crash.{LeavesOnly};
 ghost use Rattle.disk_model.specs.View.{IsDurable};

@@ -18,7 +18,8 @@ pub record AreAbove (rules : List Rule) (above : List (List LabelId)) : Type 0 w
   pub each : (l : LabelId) → l.0 < length above → IsUpRow rules l (slice_index_or above l.0 [])
 
 -- the parts of the normal form of these rules
-pub record AreParts (rules : List Rule) (named : List LabelId) (fresh above : List (List LabelId)) (joins : List (List Join)) (empties : List LabelId) : Type 0 where
+pub record AreParts (rules : List Rule) (named : List LabelId) (fresh above : List (List LabelId))
+    (joins : List (List Join)) (empties : List LabelId) : Type 0 where
   pub grammar_is : IsGrammar rules
   pub named_are : AreNamed named
   pub fresh_are : fresh ≡ fresh_words rules

@@ -27,7 +27,8 @@ pub record DiffersFirst (text copy : List ℕ) (place : ℕ) : Type 0 where
   pub same : take place text ≡ take place copy
   pub differ : slice_get text place ≢ slice_get copy place
 
--- a fault of a comparison has its cause: the input's count rose, or the disk's, or the two texts differ, of which this is said. Want of memory is free.
+-- a fault of a comparison has its cause: the input's count rose, or the disk's, or the two texts differ, of which
+-- this is said. Want of memory is free.
 abbrev pub HasCompareFault : ℕ → ℕ → ℕ → ℕ → (InputFile → ℕ → Type 0) → StoreFault → Type 0
 HasCompareFault reads_before reads_now before now differ ReadFault = Rose reads_before reads_now
 HasCompareFault reads_before reads_now before now differ DiskFault = Rose before now

@@ -31,8 +31,8 @@ abbrev pub IsRefused : OpenStore → ℕ → List ℕ → ℕ → FormKind → T
 IsRefused s i file place kind =
     (first_break (expect_in s i) file ≡ Some (record { place = place; kind = kind }))
     ⊎ ((edges : List Born) × Fits (expect_in s i) (part_of s.manifest i edges)
-        × Spells file (part_of s.manifest i edges) × (IsTold s.manifest i edges → ⊥) × (place ≡ 0)
-        × (kind ≡ Counts))
+    × Spells file (part_of s.manifest i edges) × (IsTold s.manifest i edges → ⊥) × (place ≡ 0)
+    × (kind ≡ Counts))
 
 -- how many of the edges end in interval i below a vertex
 abbrev pub count_below_of : List ℕ → ℕ → ℕ → List Born → ℕ

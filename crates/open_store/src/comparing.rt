@@ -1,5 +1,6 @@
 //! An input is compared with its copy.
-ghost use Rattle.std.specs.Prelude.{◌≡◌, ◌≢◌, ◌<◌, ◌≤◌, ◌+◌, ◌^◌, ℕ, List, IsTrue, true, false, Some, None, Ok, length, take, drop, slice_index_or, OnOk, IfOk, IfErr};
+ghost use Rattle.std.specs.Prelude.{◌≡◌, ◌≢◌, ◌<◌, ◌≤◌, ◌+◌, ◌^◌, ℕ, List, IsTrue, true, false, Some, None, Ok};
+ghost use Rattle.std.specs.Prelude.{length, take, drop, slice_index_or, OnOk, IfOk, IfErr};
 ghost use Rattle.disk_model.specs.Disk.{HasCause};
 ghost use Rattle.disk_model.specs.View.{OnlyLooks};
 ghost use Rattle.io_edge.specs.Devices.{Gives, Rose};
@@ -168,7 +169,7 @@ pub fn same_input<I: Inputs, D: Disk>(
     ensures cause { IfErr result (HasCompareFault (I.faults inputs.old name.now) (I.faults inputs.new name.now)
         (D.faults disk.old) (D.faults disk.new)
         (λ f place. (f ≡ file) × ((text : List ℕ) → I.told inputs.old name.now ≡ Some text → IsTrue D.tells
-            → DiffersFirst text (copy_of store.now.manifest file (D.seen disk.old)) place))) }
+        → DiffersFirst text (copy_of store.now.manifest file (D.seen disk.old)) place))) }
     ensures looks { OnlyLooks D.Disk disk.old disk.new }
     ensures kept { I.told inputs.new ≡ I.told inputs.old }
     ensures others { NoCountFalls I.Inputs inputs.old inputs.new }

@@ -94,8 +94,7 @@ pub(crate) fn grammar_of<D: Disk>(
     ensures looks { OnlyLooks D.Disk disk.old disk.new }
     ensures later { D.faults disk.old ≤ D.faults disk.new }
     ensures cause { HasDiskCause (D.faults disk.old) (D.faults disk.new)
-        (λ file place kind. IsTrue D.tells → IsBadCopy slot manifest.now (D.seen disk.old 2) file place kind) result
-        }
+        (λ file place kind. IsTrue D.tells → IsBadCopy slot manifest.now (D.seen disk.old 2) file place kind) result }
 {
     let bytes = copy_bytes(alloc, disk, manifest.grammar_len)?;
     match read_grammar(alloc, &bytes) {

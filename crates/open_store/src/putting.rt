@@ -2,7 +2,7 @@
 ghost use Rattle.std.specs.Prelude.{◌≡◌, ◌≢◌, ◌<◌, ◌≤◌, ℕ, IsTrue, true, false, Contains, All, length, OnOk, IsErrOf};
 ghost use Rattle.disk_model.specs.Disk.{Sets};
 ghost use Rattle.disk_model.specs.View.{LeavesBy};
-ghost use Rattle.disk_files.specs.Files.{OnlyFile};
+ghost use Rattle.disk_model.specs.OneFile.{OnlyFile};
 ghost use Rattle.partition_file.specs.Spelling.{newest_format, spelling};
 ghost use Rattle.open_store.specs.declared.fault.StoreFault.TheVariants.{NoMemory};
 ghost use Rattle.open_store.specs.Answers.{HasDiskCause, blames_none};
@@ -12,8 +12,7 @@ ghost use Rattle.open_store.specs.Free.{IsUsed};
 
 use crate::fault::StoreFault;
 use crate::store::Store;
-use disk_files::rewrite;
-use disk_model::Disk;
+use disk_model::{Disk, rewrite};
 use manifest_codec::PartEntry;
 use partition_file::{Partition, encode};
 use std::alloc::Global;

@@ -83,9 +83,9 @@ impl PartStream {
         ensures later { D.faults disk.old ≤ D.faults disk.new }
         ensures cause { HasDiskCause (D.faults disk.old) (D.faults disk.new) (λ file place kind. (file ≡ self.old.file)
             × (IsTrue D.tells → (e : AnExpect) (file bytes : List ℕ) (front : List ABorn)
-                → D.seen disk.old self.old.file ≡ file → IsAt e D.tells file bytes
-                (front ++ edges.old.items) self.old → first_break e file
-                ≡ Some (record { place = place; kind = kind }))) result }
+            → D.seen disk.old self.old.file ≡ file → IsAt e D.tells file bytes
+            (front ++ edges.old.items) self.old → first_break e file
+            ≡ Some (record { place = place; kind = kind }))) result }
     {
         if self.place == self.len {
             return self.end();

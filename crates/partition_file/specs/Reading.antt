@@ -1,5 +1,6 @@
 -- Reading a partition file field by field, from left to right: the edges, and the first field that breaks its rule.
-use Rattle.std.specs.Prelude.{ℕ, zero, suc, ◌+◌, ◌-◌, Bool, true, not, nat_lt, ◌==◌, ◌&&◌, ◌||◌, if◌then◌else◌, List, [], ◌∷◌, length, drop, Option, Some, None, Result, Ok, Err, codes}
+use Rattle.std.specs.Prelude.{ℕ, zero, suc, ◌+◌, ◌-◌, Bool, true, not, nat_lt, ◌==◌, ◌&&◌, ◌||◌, if◌then◌else◌}
+use Rattle.std.specs.Prelude.{List, [], ◌∷◌, length, drop, Option, Some, None, Result, Ok, Err, codes}
 use Rattle.byteorder.specs.Endian.{little_number}
 use Rattle.graph_words.specs.declared.types.Edge.{Edge}
 use Rattle.graph_words.specs.declared.types.Born.{Born}

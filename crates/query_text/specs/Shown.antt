@@ -1,5 +1,6 @@
 -- Printing that is under way.
-use Rattle.std.specs.Prelude.{◌≡◌, ℕ, ◌<◌, ◌≤◌, Bool, true, false, List, ◌++◌, length, filter, slice_index_or, Option, None, Some, Result, Ok, Err, OnOk, IfOk}
+use Rattle.std.specs.Prelude.{◌≡◌, ℕ, ◌<◌, ◌≤◌, Bool, true, false, List, ◌++◌, length, filter, slice_index_or}
+use Rattle.std.specs.Prelude.{Option, None, Some, Result, Ok, Err, OnOk, IfOk}
 use Rattle.std.specs.List.{flat_map}
 use Rattle.std.specs.Io.KnownBytes.{Appends}
 use Rattle.graph_words.specs.declared.types.Born.{Born}
@@ -44,7 +45,9 @@ IsLineOf show names b None = is_shown show names b ≡ false
 IsLineOf show names b (Some line) = (is_shown show names b ≡ true) × (line ≡ line_of show names b)
 
 -- these partitions were read, at Ok all that are wanted, and the lines of their edges were gathered. At Ok it is the number of the lines.
-pub record IsGathered (s : OpenStore) (tells : Bool) (c : Contents) (first wanted : ℕ) (show : Show) (before : Option (List ℕ)) (held : List ℕ) (after : Option (List ℕ)) (holds : List ℕ) (result : Result ℕ AnswerFault) (read : List (List Born)) : Type 0 where
+pub record IsGathered (s : OpenStore) (tells : Bool) (c : Contents) (first wanted : ℕ) (show : Show)
+    (before : Option (List ℕ)) (held : List ℕ) (after : Option (List ℕ)) (holds : List ℕ)
+    (result : Result ℕ AnswerFault) (read : List (List Born)) : Type 0 where
   pub are_read : AreRead s tells c first read
   pub few : length read ≤ wanted
   pub all : OnOk result (length read ≡ wanted)

@@ -84,7 +84,7 @@ AddsFirst n every since b edges before after = (a : LabelId) (w : Vertex)
 abbrev pub AddsRows : Normal → Bool → ℕ → List Born → List Born → List Block → List Block → Type 0
 AddsRows n every since firsts edges before after = (a : LabelId) (w : Vertex)
     → Gives after a w ↔ (Gives before a w ⊎ ((b : Born) × Contains firsts b × Counts every since b
-        × JoinsTo n b.edge.label (row_of b.edge.dst.0 edges) a w))
+    × JoinsTo n b.edge.label (row_of b.edge.dst.0 edges) a w))
 
 -- what an edge that ends at the centre x joins to: a new one with the row of x, and an old one with its new edges
 abbrev pub Through : Normal → ℕ → Vertex → List Born → List Born → Born → LabelId → Vertex → Type 0

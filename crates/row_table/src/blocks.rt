@@ -3,7 +3,8 @@ ghost use Rattle.std.specs.Prelude.{◌≡◌, ◌↔◌, Contains, ◌+◌, ◌
 ghost use Rattle.graph_words.specs.declared.types.Born.{Born as ABorn};
 ghost use Rattle.graph_words.specs.declared.types.LabelId.{LabelId as ALabel};
 ghost use Rattle.normal_law.specs.NormalForm.{normal_form};
-ghost use Rattle.row_table.specs.Joined.{LabelsAscend, AddsJoins, AddsSecond, AddsFirst, AddsRows, AreSeconds, Counts, GivesJoins, HasLabels, IsJoinOf, PartsLabels};
+ghost use Rattle.row_table.specs.Joined.{LabelsAscend, AddsJoins, AddsSecond, AddsFirst, AddsRows, AreSeconds};
+ghost use Rattle.row_table.specs.Joined.{Counts, GivesJoins, HasLabels, IsJoinOf, PartsLabels};
 ghost use Rattle.row_table.specs.Sieve.{HasNumber};
 ghost use Rattle.row_table.specs.Loaded.{newer_of};
 

@@ -2,7 +2,8 @@
 ghost use Rattle.std.specs.Prelude.{◌≡◌, ◌<◌, ◌≤◌, ◌⊎◌, ◌++◌, ◌∷◌, [], ℕ, All, OnOk, map};
 ghost use Rattle.graph_words.specs.Reach.{edge};
 ghost use Rattle.closing_machine.specs.Rounds.{HasEdge, IsOrdered};
-ghost use Rattle.row_table.specs.Joined.{AppendsLabel, AppendsBelow, AppendsLacking, BlockGives, EndsHere, GivesEnd, IsNextLabel, MarksEnds, Sifts, vertex as vertex_of};
+ghost use Rattle.row_table.specs.Joined.{AppendsLabel, AppendsBelow, AppendsLacking, BlockGives, EndsHere};
+ghost use Rattle.row_table.specs.Joined.{GivesEnd, IsNextLabel, MarksEnds, Sifts, vertex as vertex_of};
 
 use crate::blocks::{Block, run_of};
 use crate::merging::has_edge;

@@ -3,7 +3,7 @@ use Rattle.std.proofs.Common.{ℕ, ◌≤◌, ◌∙◌, refl, arith}
 use Rattle.disk_model.specs.Disk.{Contents}
 use Rattle.disk_model.specs.Crash.{From, LeavesOnly}
 use Rattle.disk_model.specs.Run.{no_step, then_no_more, then_run}
-use Rattle.disk_files.specs.Files.{OnlyFile}
+use Rattle.disk_model.specs.OneFile.{OnlyFile}
 use Rattle.disk_model.specs.Looks.{Looks}
 use Rattle.store.specs.Making.{IsBeside}
 

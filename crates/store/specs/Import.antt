@@ -22,7 +22,8 @@ use Rattle.open_store.specs.Store.{IsOpenStore, OpenStore}
 abbrev pub texts_of : List ℕ → List ℕ → Texts
 texts_of grammar edges = record { grammar = grammar; files = edges ∷ [] }
 
--- The store is in slot 0, keeps its rules, and has the rules of the grammar. Its manifest is one of the grammar and a text without a fault, which is the inputs' file where that is told.
+-- The store is in slot 0, keeps its rules, and has the rules of the grammar. Its manifest is one of the grammar and
+-- a text without a fault, which is the inputs' file where that is told.
 pub record IsNewStore (grammar : List ℕ) (told : Option (List ℕ)) (s : OpenStore) : Type 0 where
   pub slot_is : s.slot ≡ Zero
   pub keeps : IsOpenStore s
@@ -57,7 +58,9 @@ pub record HasFresh (grammar : List ℕ) (told : Option (List ℕ)) (limit : ℕ
 abbrev pub Imports : List ℕ → Option (List ℕ) → ℕ → Contents → Contents → Type 0
 Imports grammar told limit old new = (current_of new ≡ current_of old) ⊎ HasFresh grammar told limit new
 
--- Why an import has no answer: the input's count of faults rose, or the disk's; or the edge file, where it is told, has this first fault behind the grammar's names. The copy of the edges is blamed only where the disk doesn't tell what it holds. Want of memory is free.
+-- Why an import has no answer: the input's count of faults rose, or the disk's; or the edge file, where it is told,
+-- has this first fault behind the grammar's names. The copy of the edges is blamed only where the disk doesn't tell
+-- what it holds. Want of memory is free.
 abbrev pub HasImportCause : List ℕ → Option (List ℕ) → Type 0 → ℕ → ℕ → ℕ → ℕ → StoreFault → Type 0
 HasImportCause grammar told tells reads reads' calls calls' ReadFault = Rose reads reads'
 HasImportCause grammar told tells reads reads' calls calls' DiskFault = DiskRose calls calls'

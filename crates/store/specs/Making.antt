@@ -129,7 +129,8 @@ pub record IsFirst (s : Source) (t : Tables) (m : Manifest) : Type 0 where
   pub joined : (i j : ℕ) → joined_of m.marks i j ≡ 0
   pub newest : (i : ℕ) → newest_of m.marks i ≡ 0
 
--- All is on the disk but the manifest: it keeps the rules of its format, and with it the contents are a fresh store of the texts, where the disk tells them.
+-- All is on the disk but the manifest: it keeps the rules of its format, and with it the contents are a fresh store
+-- of the texts, where the disk tells them.
 pub record IsPrepared (grammar : List ℕ) (told : Option (List ℕ)) (limit : ℕ) (tells : Type 0) (c : Contents) (p : Prepared) : Type 0 where
   pub fits : KeepsRules p.manifest
   pub first : p.manifest.generation ≡ 0

@@ -7,8 +7,7 @@ ghost use Rattle.open_store.specs.declared.fault.StoreFault.TheVariants.{NoMemor
 ghost use Rattle.store.specs.Import.{HasImportCause};
 ghost use Rattle.store.specs.Making.{IsBeside, IsSource, of_text as fault_of_text};
 
-use disk_files::rewrite;
-use disk_model::{Disk, FormKind};
+use disk_model::{Disk, FormKind, rewrite};
 use grammar_norm::{Grammar, LabelTable, Normal, normalise, read_grammar};
 use import_text::{Copied, TextFault, copy_edges};
 use io_edge::{InputFile, Inputs};

@@ -20,7 +20,7 @@ use Rattle.store_law.specs.Texts.{Texts, graph, normal, edges_text}
 use Rattle.store_law.specs.Listed.{AreListed, part_file, part_of}
 use Rattle.store_law.specs.Left.{IsCopy, IsLeft, IsOfTexts, IsStore, IsStoreOf}
 use Rattle.store_law.specs.Imported.{IsFresh, IsImported}
-use Rattle.disk_files.specs.Files.{OnlyFile}
+use Rattle.disk_model.specs.OneFile.{OnlyFile}
 use Rattle.store_law.specs.Steps.{IsFree, KeepsCopies, KeepsFiles}
 use Rattle.store_law.proofs.Named.{task_of_texts}
 

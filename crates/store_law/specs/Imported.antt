@@ -21,7 +21,8 @@ pub record AreDegrees (g : Graph) (degrees : List ℕ) : Type 0 where
   pub size : length degrees ≡ g.vertices
   pub each : (v : ℕ) → v < g.vertices → slice_index_or degrees v 0 ≡ count_by (λ e. e.src.0 == v) g.edges
 
--- With this manifest as the current one the contents are a fresh store of the texts: nothing is joined yet, and the vertices are cut by how many edge lines begin at each. No slot is looked at.
+-- With this manifest as the current one the contents are a fresh store of the texts: nothing is joined yet, and the
+-- vertices are cut by how many edge lines begin at each. No slot is looked at.
 pub record IsFresh (t : Texts) (limit : ℕ) (c : Contents) (m : Manifest) (parts : List (List Born)) : Type 0 where
   -- the next generation is 1
   pub first : m.generation ≡ 0

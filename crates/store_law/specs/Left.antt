@@ -32,7 +32,8 @@ pub record IsOfTexts (t : Texts) (c : Contents) (m : Manifest) : Type 0 where
   pub labels : m.labels ≡ names_of t
   pub vertices : m.vertices ≡ (graph t).vertices
 
--- With this manifest as the current one the contents are a store of the texts: its partitions and tables stand for a state that holds of them. No slot is looked at.
+-- With this manifest as the current one the contents are a store of the texts: its partitions and tables stand for
+-- a state that holds of them. No slot is looked at.
 pub record IsStoreOf (t : Texts) (c : Contents) (m : Manifest) (parts : List (List Born)) : Type 0 where
   pub texts : IsOfTexts t c m
   -- the partition files can be read

@@ -18,7 +18,7 @@ ghost use Rattle.store_law.specs.Texts.{AreGoodInTurn, Texts, joined_text};
 ghost use Rattle.store_law.specs.Listed.{AreExact, AreListed, ends_of};
 ghost use Rattle.store_law.specs.Left.{IsDone, IsLeft, IsOfTexts, IsStore, IsStoreOf};
 ghost use Rattle.store_law.specs.Imported.{IsFresh, IsImported};
-ghost use Rattle.disk_files.specs.Files.{OnlyFile};
+ghost use Rattle.disk_model.specs.OneFile.{OnlyFile};
 ghost use Rattle.store_law.specs.Steps.{IsFree, KeepsCopies, KeepsFiles};
 
 /// The partitions that a manifest lists are partitions of its intervals, which cut the vertices.

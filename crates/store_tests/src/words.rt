@@ -1,6 +1,6 @@
 //! The words of command lines.
 use crate::fixtures::word_list;
-use closer::RunOptions;
+use closing_options::RunOptions;
 use command_words::{Command, WordsFault, read_command};
 use std::test::Fail;
 

@@ -1,8 +1,8 @@
 //! Files and sinks in memory, and the calls that read and write through them.
 use crate::fixtures::named;
 use io_edge::{
-    Failed, Inputs, MemInputs, MemSink, NamedBytes, NullSink, ReadFault, Sink, SureInputs,
-    OutSink, read_whole, write_line,
+    Failed, Inputs, MemInputs, MemSink, NamedBytes, NullSink, OutSink, ReadFault, Sink, SureInputs,
+    read_whole, write_line,
 };
 use std::alloc::{AllocError, Global};
 use std::test::Fail;

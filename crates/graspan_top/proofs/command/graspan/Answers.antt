@@ -8,9 +8,10 @@ use Rattle.graspan_top.specs.Faults.{of_words}
 use Rattle.graspan_top.specs.Given.{Given}
 use Rattle.graspan_top.specs.Printing.{Begins, BeginsWhole, Prints, PrintsFirst, status_of}
 use Rattle.graspan_top.specs.declared.status.Status.{Status}
-use Rattle.graspan_top.proofs.CommandLemmas.{nothing_begun_of, said_later, words_back, words_explain}
+use Rattle.graspan_top.specs.declared.status.Status.TheVariants.{Done}
+use Rattle.graspan_top.proofs.CommandLemmas.{nothing_begun_of, said_later, words_back, words_explain, words_not_done}
 use Rattle.graspan_top.proofs.ExplainLemmas.{rose_later}
-use Rattle.graspan_top.proofs.PrintLemmas.{begins, ends_later, prints}
+use Rattle.graspan_top.proofs.PrintLemmas.{begins, ends_later, nothing_first, prints}
 use Rattle.graspan_top.proofs.command.graspan.Goals as goal
 
 pub returns-in-Ok-clause-explained : goal.returns-in-Ok-clause-explained
@@ -42,18 +43,40 @@ returns-in-Ok-clause-printed g c = λ d reading.
     let late : Type 0 = Rose (O.faults c.carry_out-ended.new.out) (O.faults c.end.new.out) in
     let rose : Type 0 = Rose (O.faults c.args.out.now) (O.faults c.end.new.out) in
     let more = rose_later (O.faults c.args.out.now) (O.faults c.carry_out-ended.new.out) (O.faults c.end.new.out) (O.faults c.end.new.out) c.carry_out-ended.ensures.writes (omega arith) in
+    let ends = ends_later mid new late rose more c.end.result c.end.ensures.ends in
     let first : PrintsFirst D.tells (IsTextOf after (said c.in-Ok.command)) old mid c.end.result = subst (λ (s : Status). PrintsFirst D.tells (IsTextOf after (said c.in-Ok.command)) old mid s) (sym c.end.ensures.status) c.carry_out-ended.ensures.printed in
-    subst (λ (k : Said). Prints D.tells (IsTextOf after k) old new rose c.end.result) same
-    (prints D.tells (IsTextOf after (said c.in-Ok.command)) old mid new rose c.end.result first (ends_later mid new late rose more c.end.result c.end.ensures.ends))
+    let begun : Begins D.tells (IsBegunOf after (said c.in-Ok.command)) old mid c.end.result = subst (λ (s : Status). Begins D.tells (IsBegunOf after (said c.in-Ok.command)) old mid s) (sym c.end.ensures.status) c.carry_out-ended.ensures.begun in (
+      subst (λ (k : Said). Prints D.tells (IsTextOf after k) old new rose c.end.result) same (prints D.tells (IsTextOf after (said c.in-Ok.command)) old mid new rose c.end.result first ends),
+      subst (λ (k : Said). BeginsWhole D.tells (IsBegunOf after k) old new rose c.end.result) same (begins D.tells (IsBegunOf after (said c.in-Ok.command)) old mid new rose c.end.result begun ends),
+    )
+
+pub returns-in-Err-clause-printed : goal.returns-in-Err-clause-printed
+returns-in-Err-clause-printed g c = λ d reading.
+    let D = g.D.Disk in
+    let O = g.O.Sink in
+    let seen = D.seen c.args.disk.now in
+    let old = O.told c.args.out.now in
+    let new = O.told c.end-in-Err.new.out in
+    let rose : Type 0 = Rose (O.faults c.args.out.now) (O.faults c.end-in-Err.new.out) in
+    let s = c.end-in-Err.result in
+    let not : s ≡ Done → ⊥ = λ done. words_not_done c.in-Err.fault (sym c.from.ensures ∙ sym c.end-in-Err.ensures.status ∙ done) in (
+      prints D.tells (IsTextOf seen d) old old new rose s (nothing_first D.tells (IsTextOf seen d) old s not) c.end-in-Err.ensures.ends,
+      begins D.tells (IsBegunOf seen d) old old new rose s (nothing_begun_of D.tells seen d old s) c.end-in-Err.ensures.ends,
+    )
 
 pub returns-in-Ok-clause-exact : goal.returns-in-Ok-clause-exact
-returns-in-Ok-clause-exact g c = λ edges grammar options show reading tells gt et tg te left done.
+returns-in-Ok-clause-exact g c = λ edges grammar options show reading done tells gt et tg te left.
     let same : said c.in-Ok.command ≡ run edges grammar options show = one_reading c.args.words.now (said c.in-Ok.command) (run edges grammar options show) c.in-Ok.ensures.reading reading in
     c.carry_out-ended.ensures.exact edges grammar options show same tells gt et tg te left (sym c.end.ensures.status ∙ done)
 
+pub returns-in-Ok-clause-words : goal.returns-in-Ok-clause-words
+returns-in-Ok-clause-words g c = ?
+
 pub returns-in-Err-clause-words : goal.returns-in-Err-clause-words
-returns-in-Err-clause-words g c = λ is d reading.
-    c.in-Err.ensures.words (words_back c.in-Err.fault (sym c.from.ensures ∙ sym c.end-in-Err.ensures.status ∙ is)) d reading
+returns-in-Err-clause-words g c = (
+  (λ is d reading. c.in-Err.ensures.words (words_back c.in-Err.fault (sym c.from.ensures ∙ sym c.end-in-Err.ensures.status ∙ is)) d reading),
+  (λ none. (refl, refl, ?)),
+)
 
 pub returns-in-Err-clause-explained : goal.returns-in-Err-clause-explained
 returns-in-Err-clause-explained g c = λ d reading.
@@ -66,30 +89,6 @@ returns-in-Err-clause-explained g c = λ d reading.
     let wr : Type 0 = Rose (O.faults c.args.out.now) (O.faults c.end-in-Err.new.out) in
     subst (λ (s : Status). Explains x (D.seen c.args.disk.now) reads dr wr d s) (sym (c.end-in-Err.ensures.status ∙ c.from.ensures))
     (words_explain x (D.seen c.args.disk.now) reads dr wr c.in-Err.fault (λ e. c.in-Err.ensures.words e d reading) d)
-
-pub returns-in-Ok-clause-begun : goal.returns-in-Ok-clause-begun
-returns-in-Ok-clause-begun g c = λ d reading.
-    let D = g.D.Disk in
-    let O = g.O.Sink in
-    let after = D.seen c.carry_out-ended.new.disk in
-    let same : said c.in-Ok.command ≡ d = one_reading c.args.words.now (said c.in-Ok.command) d c.in-Ok.ensures.reading reading in
-    let old = O.told c.args.out.now in
-    let mid = O.told c.carry_out-ended.new.out in
-    let new = O.told c.end.new.out in
-    let late : Type 0 = Rose (O.faults c.carry_out-ended.new.out) (O.faults c.end.new.out) in
-    let rose : Type 0 = Rose (O.faults c.args.out.now) (O.faults c.end.new.out) in
-    let more = rose_later (O.faults c.args.out.now) (O.faults c.carry_out-ended.new.out) (O.faults c.end.new.out) (O.faults c.end.new.out) c.carry_out-ended.ensures.writes (omega arith) in
-    let first : Begins D.tells (IsBegunOf after (said c.in-Ok.command)) old mid c.end.result = subst (λ (s : Status). Begins D.tells (IsBegunOf after (said c.in-Ok.command)) old mid s) (sym c.end.ensures.status) c.carry_out-ended.ensures.begun in
-    subst (λ (k : Said). BeginsWhole D.tells (IsBegunOf after k) old new rose c.end.result) same
-    (begins D.tells (IsBegunOf after (said c.in-Ok.command)) old mid new rose c.end.result first (ends_later mid new late rose more c.end.result c.end.ensures.ends))
-
-pub returns-in-Err-clause-begun : goal.returns-in-Err-clause-begun
-returns-in-Err-clause-begun g c = λ d reading.
-    let D = g.D.Disk in
-    let O = g.O.Sink in
-    let old = O.told c.args.out.now in
-    let new = O.told c.end-in-Err.new.out in
-    begins D.tells (IsBegunOf (D.seen c.args.disk.now) d) old old new (Rose (O.faults c.args.out.now) (O.faults c.end-in-Err.new.out)) c.end-in-Err.result (nothing_begun_of D.tells (D.seen c.args.disk.now) d old c.end-in-Err.result) c.end-in-Err.ensures.ends
 
 pub returns-in-Ok-clause-stops : goal.returns-in-Ok-clause-stops
 returns-in-Ok-clause-stops g c = λ edges grammar options show reading.

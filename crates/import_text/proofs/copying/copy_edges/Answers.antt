@@ -1,7 +1,8 @@
 use Rattle.std.proofs.lemmas.Result.{err_from_is_err_and}
 use Rattle.disk_model.specs.Disk.{ShortenedIn}
 use Rattle.disk_model.specs.Run.{one_step, then_run}
-use Rattle.disk_files.specs.Files.{OnlyFile, only_refl, only_shortened, only_trans}
+use Rattle.disk_model.specs.OneFile.{OnlyFile, only_refl, only_shortened, only_trans}
+use Rattle.import_text.proofs.CopyLemmas.{disk_no_text}
 use Rattle.import_text.proofs.copying.copy_edges.Goals as goal
 
 pub returns-in_err-cut-clause-any_moment : goal.returns-in_err-cut-clause-any_moment
@@ -12,6 +13,11 @@ returns-in_err-cut-clause-any_moment g c =
 
 pub copy_pieces-requires-clause-empty : goal.copy_pieces-requires-clause-empty
 copy_pieces-requires-clause-empty g c = λ tells. (c.in_ok-cut.ensures.cut tells).here
+
+pub returns-in_err-cut-clause-fault : goal.returns-in_err-cut-clause-fault
+returns-in_err-cut-clause-fault g c =
+    let p = err_from_is_err_and c.from_residual-in_err-cut.result c.from_residual-in_err-cut.ensures.1 in
+    rw p.1 (λ line kind text names e. absurd (disk_no_text p.0 line kind p.2 e))
 
 pub returns-in_err-len-clause-fault : goal.returns-in_err-len-clause-fault
 returns-in_err-len-clause-fault g c =

@@ -4,7 +4,7 @@ use Rattle.edge_text.specs.EdgesText.{edges_fault}
 use Rattle.edge_text.proofs.FeedLemmas.{reads_fault, reads_all}
 use Rattle.disk_model.specs.Disk.{TornIn}
 use Rattle.disk_model.specs.Run.{no_step, then_call}
-use Rattle.disk_files.specs.Files.{OnlyFile, only_refl, only_torn, only_trans}
+use Rattle.disk_model.specs.OneFile.{OnlyFile, only_refl, only_torn, only_trans}
 use Rattle.import_text.proofs.CopyLemmas.{copying_start, copying_on, copying_ends, copying_text, copying_cause}
 use Rattle.import_text.proofs.copying.copy_pieces.Goals as goal
 

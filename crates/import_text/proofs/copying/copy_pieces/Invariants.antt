@@ -2,7 +2,7 @@ use Rattle.std.proofs.Common.{◌≡◌, ℕ, ◌+◌, ◌-◌, ◌^◌, ◌≤�
 use Rattle.std.specs.Prelude.{IsTrue}
 use Rattle.graph_words.specs.declared.types.Edge.{Edge}
 use Rattle.disk_model.specs.Crash.{LeavesOnly, From}
-use Rattle.disk_files.specs.Files.{OnlyFile}
+use Rattle.disk_model.specs.OneFile.{OnlyFile}
 use Rattle.import_text.proofs.CopyLemmas.{IsCopying}
 use Rattle.edge_text.specs.declared.feed.TheConstants.{LONGEST_TEXT}
 use Rattle.import_text.proofs.copying.copy_pieces.Given as goal

@@ -24,8 +24,9 @@ returns-in-Ok-clause-cause g c = λ tells.
     let m = c.args.manifest.now in
     let bytes = c.in_ok-bytes.ensures.bytes tells in
     let text : c.deref.result.now ≡ take m.grammar_len file = c.deref.ensures.value ∙ bytes.0 in
-    subst (λ (f : ℕ). IsBadCopy c.args.slot m file f (labels_place newest_version) BadLabel) (sym c.file.ensures.number)
-    (IsBadCopy.differ _ _ bytes.1 (subst (λ (t : List ℕ). ReadsGrammar t c.in-Ok.grammar c.in-Ok.table) text c.in-Ok.ensures.grammar) (c.begins_with.ensures.differs c.if-begins_with.false))
+    subst (λ (p : ℕ). IsBadCopy c.args.slot m file c.file.result p BadLabel) (sym c.labels_place.ensures)
+    (subst (λ (f : ℕ). IsBadCopy c.args.slot m file f (labels_place newest_version) BadLabel) (sym c.file.ensures.number)
+    (IsBadCopy.differ _ _ bytes.1 (subst (λ (t : List ℕ). ReadsGrammar t c.in-Ok.grammar c.in-Ok.table) text c.in-Ok.ensures.grammar) (c.begins_with.ensures.differs c.if-begins_with.false)))
 
 pub returns-in-Err-Text-clause-cause : goal.returns-in-Err-Text-clause-cause
 returns-in-Err-Text-clause-cause g c = λ tells.

@@ -8,11 +8,13 @@ use Rattle.manifest_switch.specs.Answers.{AnswersCurrent}
 use Rattle.manifest_switch.specs.Slots.{current_of, file_of, other}
 use Rattle.open_store.specs.Copy.{IsBadCopy, IsCopyRead}
 use Rattle.open_store.specs.Opening.{IsBadStore}
+use Rattle.manifest_switch.specs.Steps.{Stays}
+use Rattle.manifest_switch.proofs.SwitchLemmas.{current_alike}
 use Rattle.open_store.proofs.Causes.{handed}
 use Rattle.manifest_switch.specs.declared.slot.Slot.{Slot}
 use Rattle.manifest_switch.specs.declared.slot.Slot.TheVariants.{Zero, One}
 use Rattle.open_store.proofs.Looking.{looks_then}
-use Rattle.open_store.proofs.Slots.{blank_alike, found_handed, looked, then_closed, then_looked}
+use Rattle.open_store.proofs.Slots.{blank_alike, found_handed, looked, stays_keeps, stays_refl, then_closed, then_looked}
 use Rattle.open_store.proofs.opening.grasp.Goals as goal
 
 not_two : (s : Slot) → 2 ≢ file_of s
@@ -23,6 +25,22 @@ pub returns-in_err-current-clause-cause : goal.returns-in_err-current-clause-cau
 returns-in_err-current-clause-cause g c =
     let D = g.D.Disk in
     found_handed (D.faults c.args.disk.now) (D.faults c.current.new.disk) (D.seen c.args.disk.now) D.tells c.current.result c.from_residual.result c.in_err-current.field-0.0 c.in_err-current.was c.from_residual.ensures.1 c.current.ensures.cause c.current.ensures.found
+
+pub close_other-requires-clause-current : goal.close_other-requires-clause-current
+close_other-requires-clause-current g c = λ image now.
+    let D = g.D.Disk in
+    let tells = g.met.D.Disk.told c.current.new.disk image now in
+    let alike : (f : ℕ) → image f ≡ D.seen c.args.disk.now f = λ f. c.requires image (c.in_ok-current.ensures.looks.no_more image now) f in
+    (c.in-At.manifest, current_alike (D.seen c.args.disk.now) image alike ∙ c.in_ok-current.ensures.found tells ∙ ap (λ (x : Found). Ok x) c.in-At.is)
+
+pub returns-in_ok-store_of-in-At-clause-stays : goal.returns-in_ok-store_of-in-At-clause-stays
+returns-in_ok-store_of-in-At-clause-stays g c = λ tells.
+    let D = g.D.Disk in
+    let found = D.seen c.current.new.disk in
+    let closed = D.seen c.close_other.new.disk in
+    subst (λ (x : Contents). Stays (D.seen c.args.disk.now) x) (sym c.in_ok-store_of-in-At.ensures.looks.same_seen)
+    (subst (λ (x : Contents). Stays x closed) c.in_ok-current.ensures.looks.same_seen
+    (stays_keeps (other c.in-At.slot) found found closed (stays_refl found) (c.in_ok-close_other-in-At.ensures.seen tells)))
 
 pub returns-in_err-close_other-in-At-clause-any_moment : goal.returns-in_err-close_other-in-At-clause-any_moment
 returns-in_err-close_other-in-At-clause-any_moment g c =

@@ -2,8 +2,8 @@ use Rattle.std.proofs.Common.{◌≡◌, ◌∙◌, ℕ, ◌+◌, List, [], ◌�
 use Rattle.std.proofs.lemmas.List.{append-nil, drop_all}
 use Rattle.disk_model.specs.Disk.{Contents, Sets, TornIn, ShortenedIn, written}
 use Rattle.disk_model.specs.Run.{on_ok, one_step, then_call}
-use Rattle.disk_files.specs.Files.{OnlyFile, only_refl, only_shortened, only_torn, only_trans}
-use Rattle.disk_files.proofs.rewrite.Goals as goal
+use Rattle.disk_model.specs.OneFile.{OnlyFile, only_refl, only_shortened, only_torn, only_trans}
+use Rattle.disk_model.proofs.anew.rewrite.Goals as goal
 
 pub returns-clause-any_moment : goal.returns-clause-any_moment
 returns-clause-any_moment g c =

@@ -1,12 +1,11 @@
-//! Files of a disk that are written anew.
-#![tactic(auto)]
+//! A file that is written anew.
 
 ghost use Rattle.std.specs.Prelude.{◌≡◌, ◌<◌, IsTrue, OnOk};
 ghost use Rattle.disk_model.specs.Disk.{HasCause, Sets};
 ghost use Rattle.disk_model.specs.View.{LeavesBy};
-ghost use Rattle.disk_files.specs.Files.{OnlyFile};
+ghost use Rattle.disk_model.specs.OneFile.{OnlyFile};
 
-use disk_model::{Disk, Failed};
+use crate::disk::{Disk, Failed};
 
 /// Writes a file anew: it is cut to nothing, and gets these bytes.
 ///

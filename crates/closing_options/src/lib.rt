@@ -1,4 +1,5 @@
-//! What a run is given.
+//! What a run is asked for: its numbers.
+#![tactic(auto)]
 
 /// How a store is closed. One worker joins whole pairs for now, so none of it is used yet.
 #[derive(Clone, Copy, Debug, PartialEq, Eq)]
