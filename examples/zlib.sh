@@ -59,6 +59,6 @@ ask() {
     echo "may alias $1:"
     "$top/graspan" store query M "$number" | "$top/tools/graspan_names.py" zlib.edges | sed -n '1,5p;$p'
 }
-ask 'inflate_state.window in updatewindow'
-ask 'z_stream_s.next_in in inflate_fast'
-ask 'gz_state.out in gz_write'
+ask '*out in inflate_fast (inffast.c:120)'
+ask '*scan in longest_match (deflate.c:1376)'
+ask 'prev[..] in longest_match (deflate.c:1417)'

@@ -255,7 +255,8 @@ class Body:
 
     def step_phi(self, result, rest):
         held, values = split_type(rest)
-        operands = [held + ' ' + split_list(pair.strip()[1:-1])[0] for pair in split_list(values) if pair.strip()[:1] == '[']
+        pairs = [pair.strip() for pair in split_list(values)]
+        operands = [held + ' ' + split_list(pair[1:-1])[0] for pair in pairs if pair[:1] == '[']
         self.copy(result, operands, result)
 
     def step_select(self, result, rest):

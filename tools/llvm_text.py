@@ -3,16 +3,19 @@ import os
 import re
 from collections import namedtuple
 
-NAME = r'[@%](?:"[^"]*"|[-a-zA-Z$._0-9]+)'
+WORD = r'(?:"[^"]*"|[-a-zA-Z$._0-9]+)'
+NAME = '[@%]' + WORD
 TOP_LEVEL = re.compile(r'(;|source_filename|target |@|%|define |declare |attributes |!|\$|module |\^|uselistorder|\})')
-DEFINE = re.compile(r'define .*?(@(?:"[^"]*"|[-a-zA-Z$._0-9]+))\(')
-VARIABLE = re.compile(r'(@(?:"[^"]*"|[-a-zA-Z$._0-9]+)) = ([^"]*?)\b(global|constant|alias|ifunc) (.*)$')
-INSTRUCTION = re.compile(r'\s+(?:(%(?:"[^"]*"|[-a-zA-Z$._0-9]+)) = )?(?:(?:tail|musttail|notail) )?([a-z_]+)\b ?(.*)$')
-LABEL = re.compile(r'(?:"[^"]*"|[-a-zA-Z$._0-9]+):')
+DEFINE = re.compile(r'define .*?(@%s)\(' % WORD)
+VARIABLE = re.compile(r'(@%s) = ([^"]*?)\b(global|constant|alias|ifunc) (.*)$' % WORD)
+INSTRUCTION = re.compile(r'\s+(?:(%%%s) = )?(?:(?:tail|musttail|notail) )?([a-z_]+)\b ?(.*)$' % WORD)
+LABEL = re.compile(WORD + ':')
 ATTACHED = re.compile(r'(, ![a-zA-Z_.]+ ![0-9]+)+$')
 AT_LINE = re.compile(r'!dbg !([0-9]+)')
-DECLARE = re.compile(r'(?:@llvm\.dbg\.declare\(metadata|#dbg_declare\()\s*(?:ptr|[^,]*\*) (%(?:"[^"]*"|[-a-zA-Z$._0-9]+)), '
-                     r'(?:metadata )?!([0-9]+)')
+DECLARE = re.compile(r'(?:@llvm\.dbg\.declare\(metadata|#dbg_declare\()\s*'
+                     r'(?:ptr|[^,]*\*) (%%%s), (?:metadata )?!([0-9]+)' % WORD)
+SKIPPED = re.compile(r'(?:(?:[a-z_]+cc|cc [0-9]+|fast|nnan|ninf|nsz|arcp|contract|afn|reassoc|noundef|nonnull|noalias|'
+                     r'signext|zeroext|inreg|range\([^)]*\))\s+)*')
 NUMBERS = re.compile(r'i[0-9]+|half|bfloat|float|double|x86_fp80|fp128|ppc_fp128|void')
 OPEN, CLOSE = '([{<', ')]}>'
 
@@ -65,7 +68,7 @@ def split_type(text):
     if text[:1] and text[0] in '{[<':
         at = group_end(text, 0)
     else:
-        found = re.match(r'%(?:"[^"]*"|[-a-zA-Z$._0-9]+)|[a-z_0-9A-Z.]+', text)
+        found = re.match('%%%s|[a-z_0-9A-Z.]+' % WORD, text)
         at = found.end() if found else 0
     while True:
         suffix = re.match(r'\*|\s*addrspace\([0-9]+\)', text[at:])
@@ -92,7 +95,7 @@ def carries_pointers(held):
 
 
 def globals_in(text):
-    return re.findall(r'@(?:"[^"]*"|[-a-zA-Z$._0-9]+)', text)
+    return re.findall('@' + WORD, text)
 
 
 def value_of(operand):
@@ -144,8 +147,7 @@ class Reader:
         """The type of a call's result, from the text before the function's name."""
         words = re.sub(r'\b(bitcast|addrspacecast)\s*\(', ' ', before)
         words = re.sub(r'\b(align|dereferenceable|dereferenceable_or_null)\s*\(?[0-9]+\)?', ' ', words).strip()
-        skipped = re.match(r'(?:(?:[a-z_]+cc|fast|nnan|ninf|nsz|arcp|contract|afn|reassoc|noundef|nonnull|noalias|signext|'
-                           r'zeroext|inreg|range\([^)]*\)|cc [0-9]+)\s+)*', words)
+        skipped = SKIPPED.match(words)
         return split_type(words[skipped.end():])[0]
 
 
@@ -204,7 +206,7 @@ class Module:
         parameters = split_list(first[found.end():group_end(first, found.end() - 1) - 1])
         names = []
         for number, parameter in enumerate(p for p in parameters if p != '...'):
-            last = re.search(r'(%(?:"[^"]*"|[-a-zA-Z$._0-9]+))$', parameter)
+            last = re.search('(%%%s)$' % WORD, parameter)
             names.append(last.group(1) if last and ' ' in parameter else '%%%d' % number)
         start, body = at, []
         while True:
@@ -215,7 +217,9 @@ class Module:
                 break
             at = self.instruction(lines, at, name, body)
         subprogram = AT_LINE.search(first)
-        file, line = self.subprogram(int(subprogram.group(1))) if subprogram else (os.path.basename(self.path), start + 1)
+        file, line = os.path.basename(self.path), start + 1
+        if subprogram:
+            file, line = self.subprogram(int(subprogram.group(1)))
         self.functions.append(Function(name, names, body, file, line))
         return at + 1
 

@@ -29,6 +29,8 @@ def function(body, head='define ptr @f(ptr %p, ptr %q)'):
     return '%s {\n%s\n}\n' % (head, '\n'.join('  ' + line for line in body))
 
 
+IDENTITY = function(['ret ptr %x'], 'define internal ptr @id(ptr %x)')
+
 # Each with its kind, its text and its edges.
 CASES = {
     'a load and a store, opaque': ('alias', function([
@@ -44,25 +46,27 @@ CASES = {
         '%x = load i32, ptr %p', 'store i32 %x, ptr %q', 'ret ptr null']), [
             'parameter p -d-> *parameter p', 'parameter q -d-> *parameter q']),
     'casts, address arithmetic, choices': ('alias', function([
-        '%a = bitcast ptr %p to ptr', '%b = getelementptr inbounds i8, ptr %a, i64 4', 'br label %next']) .replace('}\n', '') + (
-            'next:\n  %c = phi ptr [ %b, %0 ], [ %q, %next ]\n  %d = select i1 true, ptr %c, ptr %p\n  ret ptr %d\n}\n'), [
+        '%a = bitcast ptr %p to ptr', '%b = getelementptr inbounds i8, ptr %a, i64 4', 'br label %next', '',
+        '; a comment', '%c = phi ptr [ %b, %0 ], [ %q, %next ]', '%d = select i1 true, ptr %c, ptr %p',
+        'ret ptr %d']), [
                 'parameter p -a-> parameter p', 'parameter p -a-> &parameter p[..]', '&parameter p[..] -a-> %c',
                 'parameter q -a-> %c', '%c -a-> %d', 'parameter p -a-> %d', '%d -a-> return f']),
     'NULL is a source, for null': ('null', function(['store ptr null, ptr %p', 'ret ptr null']), [
         'parameter p -d-> *parameter p', 'NULL -n-> *parameter p', 'NULL -n-> return f']),
     'data flow has no inverses and no pointees': ('dataflow', function(['store ptr null, ptr %p', 'ret ptr %q']), [
         'NULL -n-> *parameter p', 'parameter q -a-> return f']),
-    'calls link arguments and results': ('alias', function(['ret ptr %x'], 'define internal ptr @id(ptr %x)') + function([
+    'calls link arguments and results': ('alias', IDENTITY + function([
         '%r = call ptr @id(ptr noundef %p)', '%s = tail call ptr @id(ptr %q)', 'ret ptr %s']), [
             'parameter x -a-> return id', 'parameter p -a-> parameter x', 'parameter q -a-> parameter x',
             'return id -a-> id()', 'return id -a-> id()', 'id() -a-> return f']),
     'malloc and realloc': ('alias', 'declare ptr @malloc(i64)\ndeclare ptr @realloc(ptr, i64)\n' + function([
         '%a = call noalias ptr @malloc(i64 8) #2', '%b = call ptr @realloc(ptr %a, i64 9)', 'ret ptr %b']), [
             'malloc -a-> malloc()', 'realloc -a-> realloc()', 'malloc() -a-> realloc()', 'realloc() -a-> return f']),
-    'globals and what they hold': ('alias', '@x = global i32 0\n@px = global ptr @x\n@"a b" = internal global [2 x ptr] '
-                                   '[ptr @x, ptr getelementptr (i8, ptr @px, i64 1)]\n' + function(['ret ptr @"a b"']), [
-                                       '&px -d-> px', '&x -a-> px', '&"a b" -d-> "a b"', '&x -a-> "a b"', '&px -a-> "a b"',
-                                       '&"a b" -a-> return f']),
+    'globals and what they hold': (
+        'alias', '@x = global i32 0\n@px = global ptr @x\n@"a b" = internal global [2 x ptr] '
+        '[ptr @x, ptr getelementptr (i8, ptr @px, i64 1)]\n' + function(['ret ptr @"a b"']), [
+            '&px -d-> px', '&x -a-> px', '&"a b" -d-> "a b"', '&x -a-> "a b"', '&px -a-> "a b"',
+            '&"a b" -a-> return f']),
     'copies of memory': ('alias', function([
         'call void @llvm.memcpy.p0.p0.i64(ptr align 8 %p, ptr align 8 %q, i64 16, i1 false)', 'ret ptr %p']), [
             'parameter p -d-> *parameter p', 'parameter q -d-> *parameter q', '*parameter q -a-> *parameter p',
@@ -81,7 +85,8 @@ REFUSED = {
     'no function': ('source_filename = "x.c"\n@x = global i32 0\n', 'x.ll:3: the file ends, and it has no function'),
     'empty': ('', 'x.ll:1: the file ends, and it has no function'),
     'no instruction': ('define void @f() {\n  !!\n}\n', 'x.ll:2: this is no instruction: !!'),
-    'a bracket without an end': ('define void @f() {\n  %x = load [2 x ptr, ptr %p\n}\n', 'x.ll:2: this is no instruction'),
+    'a bracket without an end': (
+        'define void @f() {\n  %x = load [2 x ptr, ptr %p\n}\n', 'x.ll:2: this is no instruction'),
     'bytes': ('\x00\x01\x02', 'x.ll:1: this is no LLVM IR'),
 }
 
@@ -111,7 +116,8 @@ class Converter(unittest.TestCase):
             self.assertIn((destination, source, other), edges)
 
     def test_what_is_left_out_is_counted(self):
-        done = self.convert(function(['%r = call ptr %p(ptr %q)', '%s = call ptr @getenv(ptr %q)', 'ret ptr %s']), 'alias')
+        body = ['%r = call ptr %p(ptr %q)', '%s = call ptr @getenv(ptr %q)', 'ret ptr %s']
+        done = self.convert(function(body), 'alias')
         self.assertIn('left out: 1 calls through pointers', done.stderr)
         self.assertIn('left out: 1 calls of functions without a body', done.stderr)
 
@@ -131,8 +137,9 @@ class Converter(unittest.TestCase):
 
     def test_files_are_one_program(self):
         with tempfile.TemporaryDirectory() as folder:
-            for name, text in (('one.ll', function(['ret ptr %x'], 'define ptr @id(ptr %x)')),
-                               ('two.ll', 'declare ptr @id(ptr)\n' + function(['%r = call ptr @id(ptr %p)', 'ret ptr %r']))):
+            caller = function(['%r = call ptr @id(ptr %p)', 'ret ptr %r'])
+            for name, text in (('one.ll', IDENTITY.replace('internal ', '')),
+                               ('two.ll', 'declare ptr @id(ptr)\n' + caller)):
                 with open(os.path.join(folder, name), 'w') as file:
                     file.write(text)
             done = run(['one.ll', 'two.ll'], folder)

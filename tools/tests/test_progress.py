@@ -99,8 +99,10 @@ class Sentences(unittest.TestCase):
                 (run, (('e', '0 1 a\n'),), 4, 'fault read\n', 'cannot read g: no such file or folder'),
                 (run, (('e', '0 1 a\nx1 2 b\n'), good[1]), 2, 'fault input edges 2 BadSource\n',
                  "e:2: 'x1' is not a vertex (a number from 0 to 16777215)"),
-                (run, (good[0], ('g', '\n\nS \x01\n')), 2, 'fault input grammar 3 BadLabel\n', "g:3: '\\x01' is not a label"),
-                (['a/b'] + run[1:], good, 5, 'fault disk\n', "cannot make the folder a/b: the folder above it isn't there"),
+                (run, (good[0], ('g', '\n\nS \x01\n')), 2, 'fault input grammar 3 BadLabel\n',
+                 "g:3: '\\x01' is not a label"),
+                (['a/b'] + run[1:], good, 5, 'fault disk\n',
+                 "cannot make the folder a/b: the folder above it isn't there"),
                 (['s', 'parts'], (), 9, 'fault no store\n', 's: nothing was imported here'),
                 (run + ['--show', 'Z'], good, 11, 'fault not known\n', "the label 'Z' of --show")):
             with self.subTest(said):
