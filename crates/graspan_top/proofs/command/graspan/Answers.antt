@@ -78,15 +78,17 @@ returns-in-Ok-clause-words g c =
     let reads = λ (name : List ℕ). Rose (I.faults c.args.inputs.now name) (I.faults c.carry_out-ended.new.inputs name) in
     let dr : Type 0 = DiskRose (D.faults c.args.disk.now) (D.faults c.carry_out-ended.new.disk) in
     let wr : Type 0 = Rose (O.faults c.args.out.now) (O.faults c.carry_out-ended.new.out) in
-    let after = D.seen c.carry_out-ended.new.disk in
-    ((λ is d reading. explains_no_words x after reads dr wr (said c.in-Ok.command) (subst (λ (s : Status). Explains x after reads dr wr (said c.in-Ok.command) s) (sym c.end.ensures.status ∙ is) c.carry_out-ended.ensures.explained)),
-     (λ none. absurd (none (said c.in-Ok.command) c.in-Ok.ensures.reading)))
+    let after = D.seen c.carry_out-ended.new.disk in (
+      (λ is d reading. explains_no_words x after reads dr wr (said c.in-Ok.command) (subst (λ (s : Status). Explains x after reads dr wr (said c.in-Ok.command) s) (sym c.end.ensures.status ∙ is) c.carry_out-ended.ensures.explained)),
+      (λ none. absurd (none (said c.in-Ok.command) c.in-Ok.ensures.reading)),
+    )
 
 pub returns-in-Err-clause-words : goal.returns-in-Err-clause-words
 returns-in-Err-clause-words g c =
-    let is_of : c.end-in-Err.result ≡ of_words c.in-Err.fault = c.end-in-Err.ensures.status ∙ c.from.ensures in
-    ((λ is d reading. c.in-Err.ensures.words (words_back c.in-Err.fault (sym is_of ∙ is)) d reading),
-     (λ none. (refl, refl, (words_or_memory c.end-in-Err.result c.in-Err.fault is_of, c.end-in-Err.ensures.ends))))
+    let is_of : c.end-in-Err.result ≡ of_words c.in-Err.fault = c.end-in-Err.ensures.status ∙ c.from.ensures in (
+      (λ is d reading. c.in-Err.ensures.words (words_back c.in-Err.fault (sym is_of ∙ is)) d reading),
+      (λ none. (refl, refl, (words_or_memory c.end-in-Err.result c.in-Err.fault is_of, c.end-in-Err.ensures.ends))),
+    )
 
 pub returns-in-Err-clause-explained : goal.returns-in-Err-clause-explained
 returns-in-Err-clause-explained g c = λ d reading.
