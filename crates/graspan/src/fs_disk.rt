@@ -3,14 +3,26 @@ ghost use Rattle.std.specs.Prelude.{◌≡◌, ◌+◌, ◌<◌, ◌≤◌, ◌^
 ghost use Rattle.std.proofs.lemmas.Bool.{false≢true};
 ghost use Rattle.disk_model.specs.Disk.{HasFailed};
 
+use crate::failure::Reason;
+use crate::heading::heading_of;
+use crate::progress::Progress;
 use disk_model::{Disk, Failed};
 use std::fs::{File, OpenFile, OpenOptions};
 use std::io::{ErrorKind, Read, Seek, SeekFrom, Write};
 use std::rt::Files;
+use std::time::Clock;
 use std::{fs, io};
 
 /// The number of files that a disk has.
 const FILES: usize = 1024;
+
+/// The files below are the slots of the manifest, whose body begins at a place.
+const SLOTS: u32 = 2;
+
+const BODY: u64 = 1;
+
+/// The first file that may hold a partition.
+const FIRST_PARTITION: u32 = 4;
 
 /// A file that is open.
 #[derive(Drop)]
@@ -24,13 +36,16 @@ struct Held<F: Drop> {
 ///
 /// The one that was used last is kept open. Each call of a disk whose folder couldn't be made fails.
 #[derive(Drop)]
-pub(crate) struct FsDisk<'a, R: Files + AllocGlobal> {
+pub(crate) struct FsDisk<'a, R: Files + AllocGlobal + Clock + Eprint> {
     rt: &'a R,
     folder: Option<String>,
     last: Option<Held<R::File>>,
     // The files that may have changed since the last sync: all of them before the first one.
     unsynced: [bool; 1024],
     faults: u64,
+    // What a person is told of a call that failed.
+    reason: Reason,
+    progress: &'a Progress<'a, R>,
 }
 
 // Makes the folder where it isn't there.
@@ -67,16 +82,36 @@ fn if_there<T: Drop>(opened: io::Result<T>) -> io::Result<Option<T>> {
     }
 }
 
-impl<'a, R: Files + AllocGlobal> FsDisk<'a, R> {
+impl<'a, R: Files + AllocGlobal + Clock + Eprint> FsDisk<'a, R> {
     /// The disk in this folder, which is made where it isn't there.
-    pub(crate) fn new(rt: &'a R, path: &str) -> Self {
+    pub(crate) fn new(rt: &'a R, path: &str, progress: &'a Progress<'a, R>) -> Self {
+        let mut reason = Reason::none();
+        let folder = match make_folder(rt, path) {
+            Ok(folder) => Some(folder),
+            Err(e) => {
+                reason.note(e.kind());
+                None
+            }
+        };
         FsDisk {
             rt,
-            folder: make_folder(rt, path).ok(),
+            folder,
             last: None,
             unsynced: [true; FILES],
             faults: 0,
+            reason,
+            progress,
         }
+    }
+
+    /// Whether the folder is there.
+    pub(crate) fn is_there(&self) -> bool {
+        self.folder.is_some()
+    }
+
+    /// Why the first call that failed did so.
+    pub(crate) fn reason(&self) -> Reason {
+        self.reason
     }
 
     // The path of a file.
@@ -132,6 +167,7 @@ impl<'a, R: Files + AllocGlobal> FsDisk<'a, R> {
         held.file.seek(SeekFrom::Start(at))?;
         let n = read_on(&mut held.file, buf)?;
         self.last = Some(held);
+        self.watch(number, at, &buf[..n], false);
         Ok(n)
     }
 
@@ -155,6 +191,7 @@ impl<'a, R: Files + AllocGlobal> FsDisk<'a, R> {
         held.file.seek(SeekFrom::Start(at))?;
         held.file.write_all(bytes)?;
         self.last = Some(held);
+        self.watch(number, at, bytes, true);
         Ok(())
     }
 
@@ -170,6 +207,23 @@ impl<'a, R: Files + AllocGlobal> FsDisk<'a, R> {
         held.file.set_len(len)?;
         self.last = Some(held);
         Ok(())
+    }
+
+    // Tells the line of progress what was read or written. Slots of the manifest are read and written whole.
+    fn watch(&self, number: u32, at: u64, bytes: &[u8], is_written: bool) {
+        if !self.progress.is_on() {
+            return;
+        }
+        if is_written {
+            self.progress.wrote(bytes.len());
+        } else if number >= FIRST_PARTITION {
+            self.progress.loaded(bytes.len());
+        }
+        if number < SLOTS && at == BODY {
+            if let Some(heading) = heading_of(self.rt.alloc(), bytes) {
+                self.progress.heading(heading, is_written);
+            }
+        }
     }
 
     // Syncs a file, where it is there.
@@ -206,15 +260,16 @@ impl<'a, R: Files + AllocGlobal> FsDisk<'a, R> {
     }
 
     // A call that failed raises the count.
-    fn fail(&mut self) -> Failed
+    fn fail(&mut self, error: io::Error) -> Failed
         ensures { HasFailed self.old.faults self.new.faults }
     {
+        self.reason.note(error.kind());
         self.faults = self.faults.saturating_add(1);
         Failed
     }
 }
 
-impl<R: Files + AllocGlobal> Disk for FsDisk<'_, R> {
+impl<R: Files + AllocGlobal + Clock + Eprint> Disk for FsDisk<'_, R> {
     ghost tells = { false };
 
     ghost seen = { λ disk f. [] };
@@ -240,35 +295,35 @@ impl<R: Files + AllocGlobal> Disk for FsDisk<'_, R> {
     fn len(&mut self, file: u32) -> Result<u64, Failed> {
         match self.len_of(file) {
             Ok(len) => Ok(len),
-            Err(_) => Err(self.fail()),
+            Err(e) => Err(self.fail(e)),
         }
     }
 
     fn read(&mut self, file: u32, at: u64, buf: &mut [u8]) -> Result<usize, Failed> {
         match self.read_from(file, at, buf) {
             Ok(n) => Ok(n),
-            Err(_) => Err(self.fail()),
+            Err(e) => Err(self.fail(e)),
         }
     }
 
     fn write_at(&mut self, file: u32, at: u64, bytes: &[u8]) -> Result<(), Failed> {
         match self.write_from(file, at, bytes) {
             Ok(()) => Ok(()),
-            Err(_) => Err(self.fail()),
+            Err(e) => Err(self.fail(e)),
         }
     }
 
     fn cut(&mut self, file: u32, len: u64) -> Result<(), Failed> {
         match self.cut_to(file, len) {
             Ok(()) => Ok(()),
-            Err(_) => Err(self.fail()),
+            Err(e) => Err(self.fail(e)),
         }
     }
 
     fn sync(&mut self) -> Result<(), Failed> {
         match self.sync_all() {
             Ok(()) => Ok(()),
-            Err(_) => Err(self.fail()),
+            Err(e) => Err(self.fail(e)),
         }
     }
 }

@@ -1,21 +1,35 @@
 //! The program `graspan`: hands its words, its files, the folder of its store and standard output to the command, and ends with its status.
 #![tactic(auto)]
 
+mod clear_sink;
+mod failure;
 mod fs_disk;
 mod fs_inputs;
+mod heading;
 mod help;
+mod hint;
+mod line_text;
+mod progress;
+#[cfg(test)]
+mod sentences;
 #[cfg(test)]
 mod tests;
 mod words;
 
+use clear_sink::ClearSink;
 use fs_disk::FsDisk;
 use fs_inputs::FsInputs;
 use graspan_top::{Status, graspan};
 use help::{HELP, VERSION};
-use io_edge::{OutSink, Sink};
+use hint::{budget_of, print_hint, tell};
+use hints::Fault;
+use io_edge::{OutSink, Sink, WordList};
+use progress::{Progress, Shown};
 use std::io;
+use std::io::IsTerminal;
 use std::process::ExitCode;
-use std::rt::Files;
+use std::rt::{Env, Files};
+use std::time::Clock;
 use words::{ProgramWords, program_words};
 
 /// Prints a text of the program's own.
@@ -32,30 +46,83 @@ fn refuse<O: Sink>(out: &mut O, line: &str, status: Status) -> Status {
     status
 }
 
+/// Carries out a command on the store in a folder, and tells a person what it ended with.
+fn carry_out<R: Files + AllocGlobal + Clock + Eprint, O: Sink>(
+    rt: &R,
+    folder: &str,
+    words: &WordList,
+    progress: &Progress<'_, R>,
+    out: &mut O,
+) -> Status {
+    let mut inputs = FsInputs::new(rt, progress);
+    let mut disk = FsDisk::new(rt, folder, progress);
+    let status = graspan(rt.alloc(), words, &mut inputs, &mut disk, out);
+    progress.clear();
+    tell(rt, folder, words, &mut inputs, &disk, status);
+    if status == Status::Done {
+        if let Some(budget) = budget_of(rt.alloc(), words) {
+            progress.say_budget(budget);
+        }
+    }
+    status
+}
+
 /// Carries out what the words say. The first one is the folder of the store, or the only one asks for help.
-fn start<R: Files + AllocGlobal, O: Sink>(rt: &R, given: &ProgramWords, out: &mut O) -> Status {
+fn start<R: Files + AllocGlobal + Clock + Eprint, O: Sink>(
+    rt: &R,
+    given: &ProgramWords,
+    progress: &Progress<'_, R>,
+    out: &mut O,
+) -> Status {
     let store = match &given.store {
         Some(store) => store.as_str(),
         None => "",
     };
     let alone = given.command.len() == 0;
     match store {
-        "" => refuse(out, "fault words\n", Status::Words),
+        "" => {
+            let status = refuse(out, "fault words\n", Status::Words);
+            let words = &given.command;
+            print_hint(
+                rt,
+                Fault::Words {
+                    folder: None,
+                    words,
+                },
+            );
+            status
+        }
         "--help" if alone => say(out, HELP),
         "--version" if alone => say(out, VERSION),
-        _ => {
-            let mut inputs = FsInputs::new(rt);
-            let mut disk = FsDisk::new(rt, store);
-            graspan(rt.alloc(), &given.command, &mut inputs, &mut disk, out)
-        }
+        _ => carry_out(rt, store, &given.command, progress, out),
+    }
+}
+
+/// Where the line of progress is shown: on a terminal, or as GRASPAN_PROGRESS says.
+fn shown<R: Env>(rt: &R, is_terminal: bool) -> Shown {
+    let mut buf = [0u8; 8];
+    let value = match rt.var("GRASPAN_PROGRESS", &mut buf) {
+        Ok(len) => buf.get(..len).unwrap_or(&[]),
+        Err(_) => &[],
+    };
+    match (value, is_terminal) {
+        (b"0", _) => Shown::Nowhere,
+        (_, true) => Shown::Terminal,
+        (b"1", false) => Shown::Plain,
+        _ => Shown::Nowhere,
     }
 }
 
 fn main(rt: HostRuntime) -> ExitCode {
-    let mut out = OutSink::new(io::writer(&rt));
+    let progress = Progress::new(&rt, shown(&rt, rt.stderr().is_terminal()));
+    let mut out = ClearSink::new(OutSink::new(io::writer(&rt)), &progress);
     let status = match program_words(&rt) {
-        Ok(given) => start(&rt, &given, &mut out),
-        Err(_) => refuse(&mut out, "fault memory\n", Status::NoMemory),
+        Ok(given) => start(&rt, &given, &progress, &mut out),
+        Err(_) => {
+            let status = refuse(&mut out, "fault memory\n", Status::NoMemory);
+            print_hint(&rt, Fault::Memory);
+            status
+        }
     };
     ExitCode::from(status.code())
 }

@@ -1,5 +1,6 @@
 use crate::fs_disk::FsDisk;
 use crate::fs_inputs::FsInputs;
+use crate::progress::{Progress, Shown};
 use disk_model::Disk;
 use io_edge::Inputs;
 use std::fs;
@@ -9,7 +10,8 @@ use std::test::Fail;
 #[test]
 fn a_file_of_the_system_is_read(rt: HostRuntime) -> Result<(), Fail> {
     fs::write(&rt, "graspan_test_file", b"abc")?;
-    let mut inputs = FsInputs::new(&rt);
+    let progress = Progress::new(&rt, Shown::Nowhere);
+    let mut inputs = FsInputs::new(&rt, &progress);
     let mut buf = [0u8; 4];
     assert_eq!(rt; inputs.read("graspan_test_file", 0, &mut buf), Ok(3));
     assert_eq!(rt; inputs.read("graspan_test_file", 3, &mut buf), Ok(0));
@@ -23,7 +25,8 @@ fn a_file_of_the_system_is_read(rt: HostRuntime) -> Result<(), Fail> {
 // A disk in a folder that isn't there yet: what is written is read, a gap is filled with zeros, and a cut shortens.
 #[test]
 fn a_folder_is_a_disk(rt: HostRuntime) -> Result<(), Fail> {
-    let mut disk = FsDisk::new(&rt, "graspan_test_store");
+    let progress = Progress::new(&rt, Shown::Nowhere);
+    let mut disk = FsDisk::new(&rt, "graspan_test_store", &progress);
     let mut buf = [9u8; 4];
     assert_eq!(rt; disk.len(4), Ok(0));
     assert_eq!(rt; disk.read(4, 0, &mut buf), Ok(0));
@@ -46,7 +49,8 @@ fn a_folder_is_a_disk(rt: HostRuntime) -> Result<(), Fail> {
 #[test]
 fn a_disk_without_a_folder_fails(rt: HostRuntime) -> Result<(), Fail> {
     fs::write(&rt, "graspan_test_file2", b"abc")?;
-    let mut disk = FsDisk::new(&rt, "graspan_test_file2");
+    let progress = Progress::new(&rt, Shown::Nowhere);
+    let mut disk = FsDisk::new(&rt, "graspan_test_file2", &progress);
     assert!(rt; disk.len(4).is_err());
     assert!(rt; disk.sync().is_err());
     fs::remove_file(&rt, "graspan_test_file2")?;

@@ -1,0 +1,119 @@
+//! What a person is told of a fault, on standard error.
+use crate::fs_disk::FsDisk;
+use crate::fs_inputs::FsInputs;
+use crate::line_text::line_of;
+use command_words::{Command, read_command};
+use graspan_top::Status;
+use hints::{Fault, sentence};
+use io_edge::{InputFile, InputKind, WordList};
+use std::alloc::Global;
+use std::rt::Files;
+use std::time::Clock;
+
+/// Prints one sentence of a fault. Where standard error can't be written the program goes on.
+pub(crate) fn print_hint<R: Eprint>(rt: &R, fault: Fault<'_>) {
+    let line = sentence(fault);
+    let _ = rt.eprintln(line.as_str());
+}
+
+// The name that the words give a file of a run.
+fn name_of<'a>(alloc: Global, words: &'a WordList, file: InputFile) -> &'a str {
+    match (read_command(alloc, words), file) {
+        (Ok(Command::Run { grammar, .. }), InputFile::Grammar) => grammar,
+        (Ok(Command::Run { edges, .. }), InputFile::Edges) => edges,
+        _ => "an input file",
+    }
+}
+
+// A line of a file has a fault. Its text is read again.
+fn input_hint<R: Files + AllocGlobal + Clock + Eprint>(
+    rt: &R,
+    words: &WordList,
+    inputs: &mut FsInputs<'_, R>,
+    file: InputFile,
+    line: u64,
+    kind: InputKind,
+) {
+    let name = name_of(rt.alloc(), words, file);
+    let text = line_of(rt.alloc(), inputs, name, line);
+    let fault = Fault::Input {
+        file,
+        name,
+        line,
+        kind,
+        text: text.as_ref().map(|text| text.as_slice()),
+    };
+    print_hint(rt, fault);
+}
+
+// What the two objects say of a call that failed.
+fn read_fault<'a, R: Files + AllocGlobal + Clock + Eprint>(
+    inputs: &'a FsInputs<'_, R>,
+) -> Fault<'a> {
+    Fault::Read {
+        name: inputs.failed_name(),
+        reason: inputs.reason().kind(),
+    }
+}
+
+fn disk_fault<'a, R: Files + AllocGlobal + Clock + Eprint>(
+    folder: &'a str,
+    disk: &FsDisk<'_, R>,
+) -> Fault<'a> {
+    let reason = disk.reason().kind();
+    if disk.is_there() {
+        Fault::Disk { folder, reason }
+    } else {
+        Fault::Folder { folder, reason }
+    }
+}
+
+/// Tells a person how a command ended. Where it is done nothing is said.
+pub(crate) fn tell<R: Files + AllocGlobal + Clock + Eprint>(
+    rt: &R,
+    folder: &str,
+    words: &WordList,
+    inputs: &mut FsInputs<'_, R>,
+    disk: &FsDisk<'_, R>,
+    status: Status,
+) {
+    let fault = match status {
+        Status::Done => return,
+        Status::InputFault { file, line, kind } => {
+            input_hint(rt, words, inputs, file, line, kind);
+            return;
+        }
+        Status::Words => Fault::Words {
+            folder: Some(folder),
+            words,
+        },
+        Status::OtherInput { file, place } => Fault::Other {
+            folder,
+            file,
+            name: name_of(rt.alloc(), words, file),
+            place,
+        },
+        Status::ReadFault => read_fault(inputs),
+        Status::DiskFault => disk_fault(folder, disk),
+        Status::WriteFault => Fault::Output { folder },
+        Status::NoMemory => Fault::Memory,
+        Status::BadStore { file, place, kind } => Fault::Store {
+            folder,
+            file,
+            place,
+            kind,
+        },
+        Status::NoStore => Fault::NoStore { folder },
+        Status::Unfinished { .. } => Fault::Unfinished { folder },
+        Status::NotKnown => Fault::NotKnown { folder, words },
+    };
+    print_hint(rt, fault);
+}
+
+/// The edges in memory that the words of a run allow.
+pub(crate) fn budget_of(alloc: Global, words: &WordList) -> Option<u64> {
+    match read_command(alloc, words) {
+        Ok(Command::Run { options, .. }) => Some(options.budget),
+        _ => None,
+    }
+}

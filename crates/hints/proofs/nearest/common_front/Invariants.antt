@@ -1,0 +1,8 @@
+use Rattle.std.proofs.Common.{◌≤◌, ◌-◌, length}
+use Rattle.hints.proofs.nearest.common_front.Given as goal
+
+abbrev pub invariant-loop-front : goal.invariant-loop-front
+invariant-loop-front l = record { first : l.front ≤ length l.a; second : l.front ≤ length l.b }
+
+abbrev pub decreases-loop-front : goal.decreases-loop-front
+decreases-loop-front l = length l.a - l.front

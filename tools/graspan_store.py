@@ -1,0 +1,197 @@
+#!/usr/bin/env python3
+"""Reads a store of graspan, from docs/FORMATS.md alone.
+
+  graspan_store.py STORE parts            the lines of 'graspan STORE parts'
+  graspan_store.py STORE labels           'label NAME COUNT' for each label
+  graspan_store.py STORE dump [LABEL]     'SOURCE DESTINATION LABEL' for each edge, as 'graspan STORE dump'
+  graspan_store.py STORE svg OUT.svg      the partitions as a matrix
+  graspan_store.py STORE dot LABEL U OUT.dot   the answers of LABEL around vertex U, for Graphviz
+
+It only reads. A store that is damaged, or of a later format, ends it with status 1 and the file and byte.
+"""
+import os
+import struct
+import sys
+from collections import namedtuple
+
+import graspan_names
+import graspan_pictures
+
+Part = namedtuple('Part', 'number lo hi file newest')
+FRESH = 1000  # labels are numbered from 0, fresh ones, which nothing prints, from here on
+
+
+class Refused(Exception):
+    """The store can't be read; the text says why."""
+
+
+class Bytes:
+    """The bytes of a file, field by field."""
+
+    def __init__(self, store, number):
+        self.path = os.path.join(store, 'g%04d' % number)
+        self.at = 0
+        try:
+            with open(self.path, 'rb') as file:
+                self.bytes = file.read()
+        except FileNotFoundError:
+            self.bytes = b''
+
+    def refuse(self, text, at=None):
+        raise Refused('%s is damaged at byte %d: %s' % (self.path, self.at if at is None else at, text))
+
+    def take(self, count):
+        if self.at + count > len(self.bytes):
+            self.refuse('it ends within a field')
+        self.at += count
+        return self.bytes[self.at - count:self.at]
+
+    def number(self, count):
+        return int.from_bytes(self.take(count), 'little')
+
+    def magic(self, wanted):
+        found = self.take(4)
+        if found != wanted and found[:3] == wanted[:3]:
+            raise Refused('%s is of another format, %r; this reads %r' % (self.path, found, wanted))
+        if found != wanted:
+            self.refuse('it begins with %r and not with %r' % (found, wanted), self.at - 4)
+
+
+class Manifest:
+    """The manifest that is current: which labels and partitions there are, and what is joined."""
+
+    def __init__(self, slot):
+        slot.at = 1
+        slot.magic(b'GSM1')
+        self.generation = slot.number(1)
+        self.round = slot.number(8)
+        self.vertices = slot.number(4)
+        self.grammar_length, self.edges_length = slot.number(8), slot.number(8)
+        self.labels = [slot.take(slot.number(1)).decode('latin-1') for _ in range(slot.number(2))]
+        self.parts = []
+        for number in range(slot.number(2)):
+            at, lo = slot.at, self.parts[-1].hi if self.parts else 0
+            self.parts.append(Part(number, lo, slot.number(4), slot.number(4), slot.number(8)))
+            if self.parts[-1].hi <= lo:
+                slot.refuse("the ends of the partitions don't ascend", at)
+        if (self.parts[-1].hi if self.parts else 0) != self.vertices:
+            slot.refuse("the partitions don't cover the vertices")
+        size = len(self.parts)
+        self.counts = [[slot.number(8) for _ in range(size)] for _ in range(size)]
+        self.marks = [[slot.number(8) for _ in range(size)] for _ in range(size)]
+
+    def has_work(self, i, j):
+        """Whether edges lead from i to j, and one of the two has an edge that isn't joined up to their mark."""
+        newest = max(self.parts[i].newest, self.parts[j].newest)
+        return self.counts[i][j] > 0 and newest >= self.marks[i][j]
+
+    def work(self):
+        size = range(len(self.parts))
+        return [(i, j) for i in size for j in size if self.has_work(i, j)]
+
+
+def current(store):
+    """The manifest of the current slot: the only open one, or of two the one whose generation follows."""
+    slots = [slot for slot in (Bytes(store, 0), Bytes(store, 1)) if len(slot.bytes) >= 2 and slot.bytes[0] == 1]
+    if not slots:
+        raise Refused('%s holds no store: nothing was imported here, or not to its end' % store)
+    manifests = [Manifest(slot) for slot in slots]
+    if len(manifests) == 2 and manifests[0].generation == (manifests[1].generation + 1) % 3:
+        return manifests[0]
+    if len(manifests) == 2 and manifests[0].generation == manifests[1].generation:
+        slots[1].refuse('both slots have one generation', 5)
+    return manifests[-1]
+
+
+def edges(store, manifest, part):
+    """Each edge of a partition: source, label number, destination, birth."""
+    file = Bytes(store, part.file)
+    file.magic(b'GSP1')
+    if (file.number(4), file.number(4)) != (part.lo, part.hi):
+        file.refuse('it is of another interval of vertices', 4)
+    for source in range(part.lo, part.hi):
+        last = None
+        for label, destination, birth in struct.iter_unpack('<HIQ', file.take(14 * file.number(8))):
+            if len(manifest.labels) <= label < FRESH or destination >= manifest.vertices:
+                file.refuse('an edge of vertex %d has no such label or vertex' % source)
+            if last is not None and (label, destination) <= last:
+                file.refuse("the edges of vertex %d don't ascend" % source)
+            last = (label, destination)
+            yield source, label, destination, birth
+    if file.at != len(file.bytes):
+        file.refuse('bytes stand behind its end')
+
+
+def all_edges(store, manifest):
+    for part in manifest.parts:
+        yield from (edge for edge in edges(store, manifest, part) if edge[1] < FRESH)
+
+
+def print_parts(store, manifest):
+    print('vertices %d' % manifest.vertices)
+    for part, row in zip(manifest.parts, manifest.counts):
+        print('part %d %d %d %d' % (part.number, part.lo, part.hi, sum(row)))
+    print('unfinished %d %d' % manifest.work()[0] if manifest.work() else 'finished')
+
+
+def print_labels(store, manifest):
+    counts = [0] * len(manifest.labels)
+    for _, label, _, _ in all_edges(store, manifest):
+        counts[label] += 1
+    for name, count in zip(manifest.labels, counts):
+        print('label %s %d' % (name, count))
+
+
+def print_dump(store, manifest, wanted=None):
+    number = None if wanted is None else label_number(manifest, wanted)
+    for source, label, destination, _ in all_edges(store, manifest):
+        if number is None or label == number:
+            print('%d %d %s' % (source, destination, manifest.labels[label]))
+
+
+def label_number(manifest, name):
+    if name not in manifest.labels:
+        raise Refused('there is no label %s; there are: %s' % (name, ' '.join(manifest.labels)))
+    return manifest.labels.index(name)
+
+
+def names_of(store, manifest):
+    """The names of vertices that the kept edge file gives."""
+    text = Bytes(store, 3).bytes[:manifest.edges_length].decode('utf-8', 'replace')
+    return graspan_names.names_in(text.split('\n'))
+
+
+def write_svg(store, manifest, path):
+    graspan_pictures.write(path, graspan_pictures.svg(manifest))
+
+
+def write_dot(store, manifest, label, vertex, path):
+    number, centre = label_number(manifest, label), int(vertex)
+    if centre >= manifest.vertices:
+        raise Refused('there is no vertex %d; there are %d, from 0 on' % (centre, manifest.vertices))
+    arrows = [(s, d) for s, l, d, _ in all_edges(store, manifest) if l == number and centre in (s, d)]
+    graspan_pictures.write(path, graspan_pictures.dot(label, centre, arrows, names_of(store, manifest)))
+
+
+# A command: what carries it out, and the least and the greatest number of words behind it.
+COMMANDS = {'parts': (print_parts, 0, 0), 'labels': (print_labels, 0, 0), 'dump': (print_dump, 0, 1),
+            'svg': (write_svg, 1, 1), 'dot': (write_dot, 3, 3)}
+
+
+def main(words):
+    carry_out, least, most = COMMANDS.get(words[1] if len(words) > 1 else '', (None, 1, 0))
+    if not least <= len(words) - 2 <= most:
+        sys.exit(__doc__.strip())
+    try:
+        carry_out(words[0], current(words[0]), *words[2:])
+        sys.stdout.flush()
+    except BrokenPipeError:
+        os.dup2(os.open(os.devnull, os.O_WRONLY), sys.stdout.fileno())
+    except OSError as fault:
+        sys.exit('graspan_store.py: %s: %s' % (fault.filename, fault.strerror))
+    except (Refused, ValueError) as fault:
+        sys.exit('graspan_store.py: %s' % fault)
+
+
+if __name__ == '__main__':
+    main(sys.argv[1:])
