@@ -102,7 +102,7 @@ module _ (m next : Manifest) (fits : Fits m) (i j k : ℕ) (t : Turns m next i j
           first_len = t.same.first_len ∙ fits.first_len ∙ sym t.same.edges_len;
           labels = rw t.same.labels fits.labels;
           few = t.well.few;
-          cover = cover_from_cut next.same.vertices 0 next.parts (rw (t.ends, t.same.vertices) (cut m fits));
+          cover = cover_from_cut next.vertices 0 next.parts (rw (t.ends, t.same.vertices) (cut m fits));
           files = t.well.files;
           files_once = t.well.once;
           map = t.well.map;

@@ -1,5 +1,5 @@
 -- What a command explains, whichever it is.
-use Rattle.std.proofs.Common.{◌≡◌, ℕ, List, Bool, Option, refl}
+use Rattle.std.proofs.Common.{◌≡◌, ◌⊎◌, inl, inr, ℕ, List, Bool, Option, refl}
 use Rattle.disk_model.specs.Disk.{Contents}
 use Rattle.store_law.specs.Left.{IsDone}
 use Rattle.command_words.specs.declared.fault.WordsFault.{WordsFault}
@@ -12,7 +12,7 @@ use Rattle.graspan_top.specs.Printing.{Begins}
 use Rattle.graspan_top.specs.Run.{IsRunBegun}
 use Rattle.graspan_top.specs.Looking.{IsAny, IsDumpFront, IsPartsText, IsQueryText, IsKnownIn, IsUnfinished, IsUnknownIn, none_undone, none_unknown, wants_all, wants_none, wants_one}
 use Rattle.graspan_top.specs.declared.status.Status.{Status}
-use Rattle.graspan_top.specs.declared.status.Status.TheVariants.{Done, Words}
+use Rattle.graspan_top.specs.declared.status.Status.TheVariants.{Done, NoMemory, Words}
 use Rattle.graspan_top.proofs.ExplainLemmas.{explains_later}
 use Rattle.graspan_top.proofs.LookLemmas.{look_later}
 use Rattle.graspan_top.proofs.TextLemmas.{nothing_begun}
@@ -32,9 +32,21 @@ module _ (x : Given) (after : Contents) (reads : List ℕ → Type 0) (dr wr : T
   words_explain words.NoMemory not dump = tt
   words_explain words.NoMemory not parts = tt
 
+-- no command answers that the words have no reading
+pub explains_no_words : (x : Given) (after : Contents) (reads : List ℕ → Type 0) (dr wr : Type 0) (c : Said) → Explains x after reads dr wr c Words → ⊥
+explains_no_words x after reads dr wr (run edges grammar options show) h = h
+explains_no_words x after reads dr wr (query label from to) h = h
+explains_no_words x after reads dr wr dump h = h
+explains_no_words x after reads dr wr parts h = h
+
 pub words_back : (f : WordsFault) → of_words f ≡ Words → f ≡ words.Words
 words_back words.Words e = refl
 words_back words.NoMemory e = absurd (cc)
+
+-- words have two faults
+pub words_or_memory : (s : Status) (f : WordsFault) → s ≡ of_words f → (s ≡ Words) ⊎ (s ≡ NoMemory)
+words_or_memory s words.Words is = inl is
+words_or_memory s words.NoMemory is = inr is
 
 pub words_not_done : (f : WordsFault) → of_words f ≡ Done → ⊥
 words_not_done words.Words e = absurd (cc)

@@ -1,5 +1,4 @@
 use Rattle.std.proofs.Common.{◌∙◌, ap, sym, refl, get_or, List, ℕ}
-use Rattle.closer.proofs.SameTexts.{same_here}
 use Rattle.closer.proofs.putting.with_part.Goals as goal
 
 pub returns : goal.returns
@@ -9,7 +8,7 @@ returns c =
     record {
       generation = refl;
       round_is = refl;
-      same = same_here _;
+      same = record { vertices = refl; grammar_len = refl; edges_len = refl; first_len = refl; labels = refl };
       refiles = c.in_ok-next.ensures;
       map_size = row.size;
       map_rows = row.rows;

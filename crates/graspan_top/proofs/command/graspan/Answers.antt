@@ -9,7 +9,7 @@ use Rattle.graspan_top.specs.Given.{Given}
 use Rattle.graspan_top.specs.Printing.{Begins, BeginsWhole, Prints, PrintsFirst, status_of}
 use Rattle.graspan_top.specs.declared.status.Status.{Status}
 use Rattle.graspan_top.specs.declared.status.Status.TheVariants.{Done}
-use Rattle.graspan_top.proofs.CommandLemmas.{nothing_begun_of, said_later, words_back, words_explain, words_not_done}
+use Rattle.graspan_top.proofs.CommandLemmas.{nothing_begun_of, said_later, words_back, words_explain, words_not_done, words_or_memory, explains_no_words}
 use Rattle.graspan_top.proofs.ExplainLemmas.{rose_later}
 use Rattle.graspan_top.proofs.PrintLemmas.{begins, ends_later, nothing_first, prints}
 use Rattle.graspan_top.proofs.command.graspan.Goals as goal
@@ -70,13 +70,25 @@ returns-in-Ok-clause-exact g c = λ edges grammar options show reading done tell
     c.carry_out-ended.ensures.exact edges grammar options show same tells gt et tg te left (sym c.end.ensures.status ∙ done)
 
 pub returns-in-Ok-clause-words : goal.returns-in-Ok-clause-words
-returns-in-Ok-clause-words g c = ?
+returns-in-Ok-clause-words g c =
+    let D = g.D.Disk in
+    let I = g.I.Inputs in
+    let O = g.O.Sink in
+    let x : Given = record { told = I.told c.args.inputs.now; tells = D.tells; before = D.seen c.args.disk.now } in
+    let reads = λ (name : List ℕ). Rose (I.faults c.args.inputs.now name) (I.faults c.carry_out-ended.new.inputs name) in
+    let dr : Type 0 = DiskRose (D.faults c.args.disk.now) (D.faults c.carry_out-ended.new.disk) in
+    let wr : Type 0 = Rose (O.faults c.args.out.now) (O.faults c.carry_out-ended.new.out) in
+    let after = D.seen c.carry_out-ended.new.disk in (
+      (λ is d reading. explains_no_words x after reads dr wr (said c.in-Ok.command) (subst (λ (s : Status). Explains x after reads dr wr (said c.in-Ok.command) s) (sym c.end.ensures.status ∙ is) c.carry_out-ended.ensures.explained)),
+      (λ none. absurd (none (said c.in-Ok.command) c.in-Ok.ensures.reading)),
+    )
 
 pub returns-in-Err-clause-words : goal.returns-in-Err-clause-words
-returns-in-Err-clause-words g c = (
-  (λ is d reading. c.in-Err.ensures.words (words_back c.in-Err.fault (sym c.from.ensures ∙ sym c.end-in-Err.ensures.status ∙ is)) d reading),
-  (λ none. (refl, refl, ?)),
-)
+returns-in-Err-clause-words g c =
+    let is_of : c.end-in-Err.result ≡ of_words c.in-Err.fault = c.end-in-Err.ensures.status ∙ c.from.ensures in (
+      (λ is d reading. c.in-Err.ensures.words (words_back c.in-Err.fault (sym is_of ∙ is)) d reading),
+      (λ none. (refl, refl, (words_or_memory c.end-in-Err.result c.in-Err.fault is_of, c.end-in-Err.ensures.ends))),
+    )
 
 pub returns-in-Err-clause-explained : goal.returns-in-Err-clause-explained
 returns-in-Err-clause-explained g c = λ d reading.
