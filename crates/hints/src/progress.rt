@@ -159,6 +159,8 @@ pub fn budget_line(edges: u64, budget: u64) -> Line {
     say_edges(&mut line, edges);
     line.text(" together, above the ");
     line.number(budget);
-    line.text(" of --budget; in an empty folder a smaller --part-edges needs less memory and more time (docs/USAGE.md)");
+    line.text(
+        " of --budget; in an empty folder a smaller --part-edges needs less memory and more time (docs/USAGE.md)",
+    );
     line
 }
