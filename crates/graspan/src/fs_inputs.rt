@@ -45,11 +45,11 @@ impl<'a, R: Files + AllocGlobal + Clock + Eprint> FsInputs<'a, R> {
         }
     }
 
-    /// The name of the first file that couldn't be read.
-    pub(crate) fn failed_name(&self) -> Option<&str> {
+    /// The name of the first file that couldn't be read, empty where all could.
+    pub(crate) fn failed_name(&self) -> &str {
         match &self.failed_name {
-            Some(name) => Some(name.as_str()),
-            None => None,
+            Some(name) => name.as_str(),
+            None => "",
         }
     }
 

@@ -49,8 +49,9 @@ fn most_of(counts: &[u64], size: usize) -> u64 {
         second: 0,
     };
     for i in 0..size {
-        let row = counts.iter().skip(i.saturating_mul(size)).take(size);
-        largest = largest.with(row.fold(0, |sum: u64, count| sum.saturating_add(*count)));
+        let from = i.saturating_mul(size);
+        let row = counts.get(from..from.saturating_add(size));
+        largest = largest.with(sum_of(row.unwrap_or(&[])));
     }
     largest.first.saturating_add(largest.second)
 }
@@ -60,6 +61,14 @@ fn at(numbers: &[u64], place: usize) -> u64 {
     numbers.get(place).copied().unwrap_or(0)
 }
 
+// The greater of the newest births of the two partitions whose count stands at a place of so many rows.
+fn last_of(newest: &[u64], place: usize, size: usize) -> u64 {
+    if size == 0 {
+        return 0;
+    }
+    at(newest, place / size).max(at(newest, place % size))
+}
+
 // How many pairs have work left: some edge leads over, and one of the two has an edge that isn't joined.
 fn count_left(manifest: &Manifest) -> u64 {
     let size = manifest.marks.len();
@@ -67,11 +76,8 @@ fn count_left(manifest: &Manifest) -> u64 {
     let newest = manifest.marks.newest_rows();
     let mut left: u64 = 0;
     for (place, count) in manifest.map.counts().iter().enumerate() {
-        if size > 0 && *count > 0 {
-            let last = at(newest, place / size).max(at(newest, place % size));
-            if last >= at(joined, place) {
-                left = left.saturating_add(1);
-            }
+        if *count > 0 && last_of(newest, place, size) >= at(joined, place) {
+            left = left.saturating_add(1);
         }
     }
     left

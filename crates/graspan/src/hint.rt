@@ -36,12 +36,16 @@ fn input_hint<R: Files + AllocGlobal + Clock + Eprint>(
 ) {
     let name = name_of(rt.alloc(), words, file);
     let text = line_of(rt.alloc(), inputs, name, line);
+    let shown = match &text {
+        Some(text) => text.as_slice(),
+        None => &[],
+    };
     let fault = Fault::Input {
         file,
         name,
         line,
         kind,
-        text: text.as_ref().map(|text| text.as_slice()),
+        text: shown,
     };
     print_hint(rt, fault);
 }
@@ -83,10 +87,7 @@ pub(crate) fn tell<R: Files + AllocGlobal + Clock + Eprint>(
             input_hint(rt, words, inputs, file, line, kind);
             return;
         }
-        Status::Words => Fault::Words {
-            folder: Some(folder),
-            words,
-        },
+        Status::Words => Fault::Words { folder, words },
         Status::OtherInput { file, place } => Fault::Other {
             folder,
             file,

@@ -1,5 +1,5 @@
 //! A line of an input, read again for a person.
-ghost use Rattle.std.specs.Prelude.{◌≤◌, IfOk, length};
+ghost use Rattle.std.specs.Prelude.{◌≤◌, length};
 
 use io_edge::Inputs;
 use std::alloc::{AllocError, Global};
@@ -75,7 +75,9 @@ fn look_on<I: Inputs>(
     name: &str,
     buf: &mut [u8],
     search: &mut Search,
-) -> Option<bool> {
+) -> Option<bool>
+    requires { length buf.old ≤ 65536 }
+{
     if search.place > u64::MAX / 2 {
         return None;
     }

@@ -83,13 +83,7 @@ fn start<R: Files + AllocGlobal + Clock + Eprint, O: Sink>(
         "" => {
             let status = refuse(out, "fault words\n", Status::Words);
             let words = &given.command;
-            print_hint(
-                rt,
-                Fault::Words {
-                    folder: None,
-                    words,
-                },
-            );
+            print_hint(rt, Fault::Words { folder: "", words });
             status
         }
         "--help" if alone => say(out, HELP),
@@ -98,19 +92,24 @@ fn start<R: Files + AllocGlobal + Clock + Eprint, O: Sink>(
     }
 }
 
-/// Where the line of progress is shown: on a terminal, or as GRASPAN_PROGRESS says.
-fn shown<R: Env>(rt: &R, is_terminal: bool) -> Shown {
-    let mut buf = [0u8; 8];
-    let value = match rt.var("GRASPAN_PROGRESS", &mut buf) {
-        Ok(len) => buf.get(..len).unwrap_or(&[]),
-        Err(_) => &[],
-    };
+/// Where the line of progress is shown, as a value of GRASPAN_PROGRESS says, and else on a terminal alone.
+fn place_of(value: &[u8], is_terminal: bool) -> Shown {
     match (value, is_terminal) {
         (b"0", _) => Shown::Nowhere,
         (_, true) => Shown::Terminal,
         (b"1", false) => Shown::Plain,
         _ => Shown::Nowhere,
     }
+}
+
+/// Where the line of progress is shown.
+fn shown<R: Env>(rt: &R, is_terminal: bool) -> Shown {
+    let mut buf = [0u8; 8];
+    let len = match rt.var("GRASPAN_PROGRESS", &mut buf) {
+        Ok(len) => len.min(buf.len()),
+        Err(_) => 0,
+    };
+    place_of(&buf[..len], is_terminal)
 }
 
 fn main(rt: HostRuntime) -> ExitCode {

@@ -18,7 +18,7 @@ fn words_of(alloc: Global, text: &str) -> Result<WordList, AllocError> {
 // What is said of words behind the folder 'store'.
 fn said(rt: &(impl Abort + AllocGlobal), text: &str, wanted: &str) -> Result<(), AllocError> {
     let words = words_of(rt.alloc(), text)?;
-    let folder = Some("store");
+    let folder = "store";
     let line = sentence(Fault::Words {
         folder,
         words: &words,
@@ -155,7 +155,7 @@ fn the_folder_comes_first(rt: HostRuntime) -> Result<(), Fail> {
     let none = WordList::new(rt.alloc());
     let two = words_of(rt.alloc(), "e g")?;
     let line = sentence(Fault::Words {
-        folder: None,
+        folder: "",
         words: &none,
     });
     assert_eq!(rt;
@@ -163,7 +163,7 @@ fn the_folder_comes_first(rt: HostRuntime) -> Result<(), Fail> {
         "graspan: the folder of the store and a command are missing, as in: graspan STORE run EDGES GRAMMAR (graspan --help)"
     );
     let line = sentence(Fault::Words {
-        folder: Some("store"),
+        folder: "store",
         words: &none,
     });
     assert_eq!(rt;
@@ -171,7 +171,7 @@ fn the_folder_comes_first(rt: HostRuntime) -> Result<(), Fail> {
         "graspan: what to do with the store store is missing: run, query, dump or parts (graspan --help)"
     );
     let line = sentence(Fault::Words {
-        folder: Some("--hepl"),
+        folder: "--hepl",
         words: &none,
     });
     assert_eq!(rt;
@@ -179,7 +179,7 @@ fn the_folder_comes_first(rt: HostRuntime) -> Result<(), Fail> {
         "graspan: there is no option --hepl (graspan --help)"
     );
     let line = sentence(Fault::Words {
-        folder: Some("run"),
+        folder: "run",
         words: &two,
     });
     assert_eq!(rt;
@@ -190,7 +190,7 @@ fn the_folder_comes_first(rt: HostRuntime) -> Result<(), Fail> {
 }
 
 // What is said of a line of 'x.edges' or 'x.grammar'.
-fn line_said(rt: &impl Abort, file: InputFile, kind: InputKind, text: Option<&[u8]>, wanted: &str) {
+fn line_said(rt: &impl Abort, file: InputFile, kind: InputKind, text: &[u8], wanted: &str) {
     let name = if file == InputFile::Edges {
         "x.edges"
     } else {
@@ -214,84 +214,84 @@ fn a_line_is_named_with_its_word(rt: HostRuntime) {
         &rt,
         edges,
         InputKind::BadSource,
-        Some(b"x1 2 a"),
+        b"x1 2 a",
         "graspan: x.edges:2: 'x1' is not a vertex (a number from 0 to 16777215)",
     );
     line_said(
         &rt,
         edges,
         InputKind::BadSource,
-        None,
+        b"",
         "graspan: x.edges:2: the first word is not a vertex (a number from 0 to 16777215)",
     );
     line_said(
         &rt,
         edges,
         InputKind::BadDestination,
-        Some(b" 2\t16777216 a"),
+        b" 2\t16777216 a",
         "graspan: x.edges:2: '16777216' is not a vertex (a number from 0 to 16777215)",
     );
     line_said(
         &rt,
         edges,
         InputKind::WrongCount,
-        Some(b"1 2"),
+        b"1 2",
         "graspan: x.edges:2: '1 2' has 2 words, and an edge has three: SOURCE DESTINATION LABEL",
     );
     line_said(
         &rt,
         edges,
         InputKind::WrongCount,
-        Some(b"1"),
+        b"1",
         "graspan: x.edges:2: '1' has 1 word, and an edge has three: SOURCE DESTINATION LABEL",
     );
     line_said(
         &rt,
         edges,
         InputKind::BadLabel,
-        Some(b"1 2 \x1b[31m"),
+        b"1 2 \x1b[31m",
         "graspan: x.edges:2: '\\x1b[31m' is not a label (1 to 64 letters, digits or signs of ASCII)",
     );
     line_said(
         &rt,
         rules,
         InputKind::BadLabel,
-        Some(b"A B \xc3\xa4"),
+        b"A B \xc3\xa4",
         "graspan: x.grammar:2: '\\xc3\\xa4' is not a label (1 to 64 letters, digits or signs of ASCII)",
     );
     line_said(
         &rt,
         rules,
         InputKind::TooManyRules,
-        None,
+        b"",
         "graspan: x.grammar:2: this is the 1001st rule, and a grammar has at most 1000",
     );
     line_said(
         &rt,
         rules,
         InputKind::RightTooLong,
-        None,
+        b"",
         "graspan: x.grammar:2: the rule has more than 64 labels on its right side",
     );
     line_said(
         &rt,
         rules,
         InputKind::TooManyLabels,
-        None,
+        b"",
         "graspan: x.grammar:2: its label would be the 1001st; both files have at most 1000",
     );
     line_said(
         &rt,
         edges,
         InputKind::LineTooLong,
-        None,
+        b"",
         "graspan: x.edges:2: the line has more than 4096 bytes",
     );
     line_said(
         &rt,
         rules,
         InputKind::TooLong,
-        None,
+        b"",
         "graspan: x.grammar:2: the file is too long: a grammar has at most 16777216 bytes",
     );
 }
@@ -307,7 +307,7 @@ fn a_long_word_is_shortened(rt: HostRuntime) {
         name: "e",
         line: 1,
         kind: InputKind::BadSource,
-        text: Some(&text),
+        text: &text,
     });
     assert!(rt; line.as_str().starts_with("graspan: e:1: 'zzz"));
     assert!(rt;
@@ -324,7 +324,7 @@ fn a_long_word_is_shortened(rt: HostRuntime) {
 fn other_faults_say_what_to_do(rt: HostRuntime) -> Result<(), Fail> {
     let folder = "store";
     let line = sentence(Fault::Read {
-        name: Some("notes.txt"),
+        name: "notes.txt",
         reason: Some(ErrorKind::NotFound),
     });
     assert_eq!(rt;
@@ -332,7 +332,7 @@ fn other_faults_say_what_to_do(rt: HostRuntime) -> Result<(), Fail> {
         "graspan: cannot read notes.txt: no such file or folder"
     );
     let line = sentence(Fault::Read {
-        name: None,
+        name: "",
         reason: None,
     });
     assert_eq!(rt; line.as_str(), "graspan: cannot read one of the two files");

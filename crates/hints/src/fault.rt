@@ -6,19 +6,19 @@ use std::io::ErrorKind;
 /// A fault, with what the program knows of its cause. Names are those that the user gave.
 #[derive(Clone, Copy)]
 pub enum Fault<'a> {
-    /// The words have no reading: the folder of the store, where one is given, and those behind it.
+    /// The words have no reading: the folder of the store, empty where none is given, and those behind it.
     Words {
-        folder: Option<&'a str>,
+        folder: &'a str,
         words: &'a WordList,
     },
-    /// A line of a file has a fault: the file and its name, the line counted from 1, and its text where it could be
-    /// read again.
+    /// A line of a file has a fault: the file and its name, the line counted from 1, and its text, empty where it
+    /// couldn't be read again.
     Input {
         file: InputFile,
         name: &'a str,
         line: u64,
         kind: InputKind,
-        text: Option<&'a [u8]>,
+        text: &'a [u8],
     },
     /// A file is another one than the store was made of. They differ first at this place, counted from 0.
     Other {
@@ -27,9 +27,9 @@ pub enum Fault<'a> {
         name: &'a str,
         place: u64,
     },
-    /// A file couldn't be read: the one that failed and why, where that is known.
+    /// A file couldn't be read: its name, empty where it isn't known, and why, where that is known.
     Read {
-        name: Option<&'a str>,
+        name: &'a str,
         reason: Option<ErrorKind>,
     },
     /// The folder couldn't be made, and why, where that is known.

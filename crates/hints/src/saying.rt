@@ -8,11 +8,12 @@ use crate::words::{say_not_known, say_words};
 use std::io::ErrorKind;
 
 // A file couldn't be read.
-fn say_read(line: &mut Line, name: Option<&str>, reason: Option<ErrorKind>) {
+fn say_read(line: &mut Line, name: &str, reason: Option<ErrorKind>) {
     line.text("cannot read ");
-    match name {
-        Some(name) => line.path(name),
-        None => line.text("one of the two files"),
+    if name.is_empty() {
+        line.text("one of the two files");
+    } else {
+        line.path(name);
     }
     say_reason(line, reason);
 }

@@ -99,6 +99,11 @@ fn say_too_long(line: &mut Line, file: InputFile) {
     }
 }
 
+// A line's text, where it could be read again: an empty line has no fault.
+fn known(text: &[u8]) -> Option<&[u8]> {
+    if text.is_empty() { None } else { Some(text) }
+}
+
 // What is wrong with edges or rules.
 fn say_kind(line: &mut Line, file: InputFile, kind: InputKind, text: Option<&[u8]>) {
     match kind {
@@ -146,13 +151,13 @@ pub(crate) fn say_input(
     name: &str,
     number: u64,
     kind: InputKind,
-    text: Option<&[u8]>,
+    text: &[u8],
 ) {
     line.path(name);
     line.text(":");
     line.number(number);
     line.text(": ");
-    say_kind(line, file, kind, text);
+    say_kind(line, file, kind, known(text));
 }
 
 /// A file is another one than the store was made of.

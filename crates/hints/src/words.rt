@@ -466,8 +466,7 @@ fn say_folder_first(line: &mut Line, command: &str) {
 }
 
 /// The words have no reading.
-pub(crate) fn say_words(line: &mut Line, folder: Option<&str>, words: &WordList) {
-    let folder = folder.unwrap_or("");
+pub(crate) fn say_words(line: &mut Line, folder: &str, words: &WordList) {
     if folder.is_empty() {
         say_no_folder(line);
     } else if words.len() == 0 {
