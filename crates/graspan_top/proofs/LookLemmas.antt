@@ -20,7 +20,7 @@ use Rattle.query_text.proofs.Showing.{cause_later}
 use Rattle.io_edge.specs.Devices.{Rose}
 use Rattle.graspan_top.specs.Faults.{of_answer}
 use Rattle.graspan_top.specs.Given.{Given}
-use Rattle.graspan_top.specs.Looking.{HasCurrent, LookExplains, Wants, loading, opening}
+use Rattle.graspan_top.specs.Looking.{HasCurrent, IsUnfinished, LookExplains, Wants, loading, opening}
 use Rattle.graspan_top.specs.Printing.{status_of}
 use Rattle.graspan_top.specs.Run.{IsShownText}
 use Rattle.graspan_top.specs.Stages.{FindExplains}
@@ -139,3 +139,8 @@ look_later x w Ready Undone Unknown rose out_rose out_rose' more NoStore h = h
 look_later x w Ready Undone Unknown rose out_rose out_rose' more (Unfinished i j) h = h
 look_later x w Ready Undone Unknown rose out_rose out_rose' more NotKnown h = h
 look_later x w Ready Undone Unknown rose out_rose out_rose' more WriteFault h = (more h.0, h.1)
+
+-- a store that is held and has work left
+pub unfinished_found : (tells : Bool) (seen : Contents) (rose : Type 0) (s : OpenStore) (m : Manifest) (e : Status) → m ≡ s.manifest → (IsTrue tells → IsHeld s seen) → (i j : ℕ) × (e ≡ Unfinished i j) × IsUnfinished m i j → FindExplains tells seen IsUnfinished rose e
+unfinished_found tells seen rose s m e same held (i, j, is, undone) =
+    subst (FindExplains tells seen IsUnfinished rose) (sym is) (λ t. (s.manifest, (s.slot, (held t).current), subst (λ (x : Manifest). IsUnfinished x i j) same undone))

@@ -18,7 +18,7 @@ use Rattle.open_store.specs.Store.{IsHeldAlone, OpenStore}
 use Rattle.store.specs.Import.{HasFresh, Imports, texts_of}
 use Rattle.closer.specs.Answers.{Moves}
 use Rattle.closer.specs.Continuing.{GoesOn}
-use Rattle.closer.proofs.LawLemmas.{left_further, rules_held, store_kept}
+use Rattle.closer.proofs.LawLemmas.{left_further, retains_store, rules_held}
 use Rattle.graspan_top.specs.Run.{StopsLeave}
 use Rattle.graspan_top.specs.Stages.{IsGrammarFile}
 
@@ -82,7 +82,7 @@ module _ {D : Type 0} (seen : D → Contents) (images : D → Contents → Type 
       turn : (t : Texts) → ((c : Contents) → images mid c → IsLeft t c) → (c d : Contents) → images mid d → Moves s (seen mid) d c → IsLeft t c
       turn t left c d image (inl kept) =
           let st = held_store t s d (held d image) (left d image) in
-          inr (s.manifest, st.0, store_kept t d c s.manifest st.0 st.1 kept)
+          inr (s.manifest, st.0, retains_store t d c s.manifest st.0 st.1 kept)
       turn t left c d image (inr on) =
           let here = honest d image in
           let st = held_store t s (seen mid) (held (seen mid) here) (left (seen mid) here) in

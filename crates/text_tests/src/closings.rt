@@ -142,9 +142,9 @@ fn brackets_close_in_five_rounds_in_one_partition_or_two(rt: HostRuntime) -> Res
 fn the_plainest_closing_lists_the_named_labels(rt: HostRuntime) -> Result<(), Fail> {
     let alloc = rt.alloc();
     let mut graph = EdgeList::new(alloc);
-    for edge in [(0, 1, 0), (0, 2, 1), (1, 2, 0)] {
-        graph.push(edge_of(edge))?;
-    }
+    graph.push(edge_of((0, 1, 0)))?;
+    graph.push(edge_of((0, 2, 1)))?;
+    graph.push(edge_of((1, 2, 0)))?;
     let grammar = grammar_of(&rt, alloc, &BRACKET_RULES)?;
     let edges = closure(alloc, 2, &graph, &grammar)?;
     let wanted = [

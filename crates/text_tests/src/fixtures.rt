@@ -1,4 +1,6 @@
 //! Edges, rules and files that several tests share.
+ghost use Rattle.std.specs.Prelude.{◌≡◌};
+
 use graph_words::{Edge, LabelId, Rule, Vertex, Word};
 use io_edge::NamedBytes;
 use normal_form::{Grammar, is_grammar};
@@ -6,7 +8,9 @@ use std::alloc::{AllocError, Global};
 use std::process::Abort;
 
 /// An edge by its source, its label and its destination.
-pub(crate) fn edge_of(edge: (u32, u16, u32)) -> Edge {
+pub(crate) fn edge_of(edge: (u32, u16, u32)) -> Edge
+    ensures { result ≡ record { src = record { 0 = edge.0 }; label = record { 0 = edge.1 }; dst = record { 0 = edge.2 } } }
+{
     Edge {
         src: Vertex(edge.0),
         label: LabelId(edge.1),

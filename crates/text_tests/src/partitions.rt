@@ -1,4 +1,6 @@
 //! The bytes of partition files.
+ghost use Rattle.std.specs.Prelude.{◌<◌};
+
 use disk_model::FormKind;
 use graph_words::{Born, Edge, LabelId, Vertex};
 use partition_file::{Expect, PartError, PartFault, Partition, decode, encode, read_pieces};
@@ -37,7 +39,9 @@ const BYTES: [u8; 78] = [
     0, 0, 0, 0, 0, 0, 0, 0, // the row of vertex 2
 ];
 
-fn decoded(alloc: Global, bytes: &[u8], expect: &Expect) -> Result<Partition, Fail> {
+fn decoded(alloc: Global, bytes: &[u8], expect: &Expect) -> Result<Partition, Fail>
+    requires { expect.now.lo < expect.now.hi }
+{
     Ok(
         decode(alloc, bytes, expect)
             .ok()
