@@ -73,42 +73,49 @@ fn disk_fault<'a, R: Files + AllocGlobal + Clock + Eprint>(
 }
 
 /// Tells a person how a command ended. Where it is done nothing is said.
-pub(crate) fn tell<R: Files + AllocGlobal + Clock + Eprint>(
+pub(crate) fn tell<'a, R: Files + AllocGlobal + Clock + Eprint>(
     rt: &R,
-    folder: &str,
-    words: &WordList,
+    folder: &'a str,
+    words: &'a WordList,
     inputs: &mut FsInputs<'_, R>,
     disk: &FsDisk<'_, R>,
     status: Status,
 ) {
-    let fault = match status {
-        Status::Done => return,
-        Status::InputFault { file, line, kind } => {
-            input_hint(rt, words, inputs, file, line, kind);
-            return;
+    match status {
+        Status::Done => {}
+        Status::Words => print_hint(rt, Fault::Words { folder, words }),
+        Status::InputFault { file, line, kind } => input_hint(rt, words, inputs, file, line, kind),
+        Status::OtherInput { file, place } => {
+            let name = name_of(rt.alloc(), words, file);
+            print_hint(
+                rt,
+                Fault::Other {
+                    folder,
+                    file,
+                    name,
+                    place,
+                },
+            );
         }
-        Status::Words => Fault::Words { folder, words },
-        Status::OtherInput { file, place } => Fault::Other {
-            folder,
-            file,
-            name: name_of(rt.alloc(), words, file),
-            place,
-        },
-        Status::ReadFault => read_fault(inputs),
-        Status::DiskFault => disk_fault(folder, disk),
-        Status::WriteFault => Fault::Output { folder },
-        Status::NoMemory => Fault::Memory,
-        Status::BadStore { file, place, kind } => Fault::Store {
-            folder,
-            file,
-            place,
-            kind,
-        },
-        Status::NoStore => Fault::NoStore { folder },
-        Status::Unfinished { .. } => Fault::Unfinished { folder },
-        Status::NotKnown => Fault::NotKnown { folder, words },
-    };
-    print_hint(rt, fault);
+        Status::ReadFault => print_hint(rt, read_fault(inputs)),
+        Status::DiskFault => print_hint(rt, disk_fault(folder, disk)),
+        Status::WriteFault => print_hint(rt, Fault::Output { folder }),
+        Status::NoMemory => print_hint(rt, Fault::Memory),
+        Status::BadStore { file, place, kind } => {
+            print_hint(
+                rt,
+                Fault::Store {
+                    folder,
+                    file,
+                    place,
+                    kind,
+                },
+            );
+        }
+        Status::NoStore => print_hint(rt, Fault::NoStore { folder }),
+        Status::Unfinished { .. } => print_hint(rt, Fault::Unfinished { folder }),
+        Status::NotKnown => print_hint(rt, Fault::NotKnown { folder, words }),
+    }
 }
 
 /// The edges in memory that the words of a run allow.
