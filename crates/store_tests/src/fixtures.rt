@@ -1,4 +1,6 @@
 //! A path of two edges, the bytes of its stores, and commands over files and disks in memory.
+ghost use Rattle.std.specs.Prelude.{◌<◌};
+
 use disk_model::{Disk, MemDisk};
 use graspan_top::{Status, graspan};
 use io_edge::{MemInputs, MemSink, NamedBytes, WordList};
