@@ -31,6 +31,11 @@ def on_a_terminal(words, folder, env):
         return text.decode(), out.read(), status
 
 
+def said_by(words, folder, env):
+    """What the program writes to a standard error that is no terminal, with its carriage returns."""
+    return subprocess.run([PROGRAM] + words, cwd=folder, capture_output=True, env=env).stderr.decode()
+
+
 @needs_program
 class Progress(unittest.TestCase):
     def setUp(self):
@@ -65,7 +70,7 @@ class Progress(unittest.TestCase):
 
     def test_it_is_seen_elsewhere_only_where_that_is_asked(self):
         self.assertEqual(graspan(self.run_words('s'), self.folder.name, env=self.environment(None)).stderr, '')
-        text = graspan(self.run_words('t'), self.folder.name, env=self.environment('1')).stderr
+        text = said_by(self.run_words('t'), self.folder.name, self.environment('1'))
         self.assertIn('\rclosing  step ', text)
         self.assertRegex(text, '\r *\r$')
 

@@ -25,6 +25,7 @@ use hint::{budget_of, print_hint, tell};
 use hints::Fault;
 use io_edge::{OutSink, Sink, WordList};
 use progress::{Progress, Shown};
+use std::fs::{File, OpenFile as _};
 use std::io;
 use std::io::IsTerminal;
 use std::process::ExitCode;
@@ -112,7 +113,15 @@ fn shown<R: Env>(rt: &R, is_terminal: bool) -> Shown {
     place_of(&buf[..len], is_terminal)
 }
 
+/// A file of nothing, which is held so that no other file takes its number.
+fn nothing<R: Files>(rt: &R) -> Option<R::File> {
+    File::open(rt, "/dev/null").ok()
+}
+
 fn main(rt: HostRuntime) -> ExitCode {
+    // Where the caller closed a standard stream, the next file that is opened would take its number, and what is printed
+    // would go into a store. These take it instead, and a print to them fails.
+    let _held = (nothing(&rt), nothing(&rt), nothing(&rt));
     let progress = Progress::new(&rt, shown(&rt, rt.stderr().is_terminal()));
     let mut out = ClearSink::new(OutSink::new(io::writer(&rt)), &progress);
     let status = match program_words(&rt) {
