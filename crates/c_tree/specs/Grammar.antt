@@ -151,6 +151,14 @@ expr_said = fold-Expr Said Said Said Said Said Said Said Said call_step place_st
 abbrev pub sum_of : Sum → Said
 sum_of = fold-Sum Said Said Said Said Said Said Said Said call_step place_step pointer_step unary_step added_step compared_step expr_step sum_step
 
+-- arguments, up to the bracket
+abbrev pub args_of : List Expr → Said
+args_of args = args_said (map expr_said args)
+
+-- an expression with the brackets round it
+abbrev pub condition_said : Expr → Said
+condition_said e = bracketed (expr_said e)
+
 -- ---- declarations
 abbrev pub base_said : Base → Said
 base_said base.Int = word k.Int
