@@ -4,11 +4,11 @@ use Rattle.std.specs.Prelude.{◌||◌}
 use Rattle.c_lexer.specs.declared.token.TokenKind.{TokenKind}
 use Rattle.c_tree.specs.declared.fault.Wrong.{Wrong}
 use Rattle.c_tree.specs.declared.fault.Wrong.TheVariants.{Unexpected, TooDeep}
-use Rattle.c_tree.specs.Said.{Kind, Said}
-use Rattle.c_tree.specs.Tokens.{Source, kind_at}
+use Rattle.c_tree.specs.Said.{Kind, Said, mark}
+use Rattle.c_tree.specs.Tokens.{Source, kind_at, tok_of}
 use Rattle.c_tree.specs.Reading.{Stops, Begins, ReadsAt, RefusesAt, from}
-use Rattle.c_tree.proofs.Parts.{Least, Turn, TurnIf, Parted, below, stops_quiet}
-use Rattle.c_tree.proofs.Places.{from_some, below_at, below_refused_at}
+use Rattle.c_tree.proofs.Parts.{Single, tok, kind_of, tok_single, mark_single, seq, seq_joined, Joined, Least, Turn, TurnIf, Parted, below, stops_quiet}
+use Rattle.c_tree.proofs.Places.{from_some, tok_at, mark_at, joined_at, second_refused_at, below_at, below_refused_at, turn_refused_at}
 
 -- ---- tests
 pub or_false : (a : Bool) → a ≡ false → (a || false) ≡ false
@@ -174,3 +174,31 @@ deep_at sx st C q turn opens bad x0 passes least s at room e none_left =
 -- a test passes at a token, from its kind
 pub passes_at : (q : Kind → Bool) (s : Source) (at : ℕ) (k : TokenKind) → kind_at s.tokens at ≡ Some k → q (Some k) ≡ true → q (kind_at s.tokens at) ≡ true
 passes_at q s at k e h = ap q e ∙ h
+
+-- ---- a token, and what stands behind it
+module _ {T B : Type 0} (said : T → Said) (kind : T → TokenKind) (single : Single said kind) (sb : B → Said) (least : Least sb) where
+  pub single_joined : Joined said sb (seq said sb)
+  single_joined = seq_joined said sb (quiet_parted said sb single.quiet) least
+
+  pub behind_single_at : (s : Source) (at next room : ℕ) (t : T) (b : B) → ReadsAt said s at room t (at + 1) → ReadsAt sb s (at + 1) room b next → ReadsAt (seq said sb) s at room (t, b) next
+  behind_single_at s at next room t b here r = joined_at said sb (seq said sb) single_joined s at (at + 1) next room t b here r
+
+  pub behind_single_refused_at : (s : Source) (at room token : ℕ) (why : Wrong) (t : T) → ReadsAt said s at room t (at + 1) → RefusesAt sb s (at + 1) room token why → RefusesAt (seq said sb) s at room token why
+  behind_single_refused_at s at room token why t here r = second_refused_at said sb (seq said sb) single_joined s at (at + 1) room t token why here r
+
+module _ {B : Type 0} (sb : B → Said) (least : Least sb) (s : Source) (at room : ℕ) (k : TokenKind) (here : kind_at s.tokens at ≡ Some k) where
+  pub behind_tok_at : (next : ℕ) (b : B) → ReadsAt sb s (at + 1) room b next → ReadsAt (seq (tok k) sb) s at room (tt, b) next
+  behind_tok_at next b r = behind_single_at (tok k) (kind_of k) (tok_single k) sb least s at next room tt b (tok_at s at room k here) r
+
+  pub behind_tok_refused_at : (token : ℕ) (why : Wrong) → RefusesAt sb s (at + 1) room token why → RefusesAt (seq (tok k) sb) s at room token why
+  behind_tok_refused_at token why r = behind_single_refused_at (tok k) (kind_of k) (tok_single k) sb least s at room token why tt (tok_at s at room k here) r
+
+  pub behind_mark_at : (next : ℕ) (b : B) → ReadsAt sb s (at + 1) room b next → ReadsAt (seq (mark k) sb) s at room (tok_of s.tokens at, b) next
+  behind_mark_at next b r = behind_single_at (mark k) (kind_of k) (mark_single k) sb least s at next room (tok_of s.tokens at) b (mark_at s at room k here) r
+
+  pub behind_mark_refused_at : (token : ℕ) (why : Wrong) → RefusesAt sb s (at + 1) room token why → RefusesAt (seq (mark k) sb) s at room token why
+  behind_mark_refused_at token why r = behind_single_refused_at (mark k) (kind_of k) (mark_single k) sb least s at room token why (tok_of s.tokens at) (mark_at s at room k here) r
+
+-- ---- a list or a choice that is the part itself
+pub whole_refused_at : {X T : Type 0} (sx : X → Said) (st : T → Said) (C : X → T) → Turn sx st C [] → (s : Source) (at room token : ℕ) (why : Wrong) → RefusesAt sx s at room token why → RefusesAt st s at room token why
+whole_refused_at sx st C turn s at room token why r = turn_refused_at sx st C [] turn s at room token why (record { front = r.front; bad = r.bad; refuses = r.refuses; place = r.place })

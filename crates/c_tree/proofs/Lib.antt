@@ -3,3 +3,4 @@ pub mod Places
 pub mod Layers
 pub mod Choices
 pub mod Handed
+pub mod Bare

@@ -358,7 +358,7 @@ pub record Turn {X T : Type 0} (sx : X → Said) (st : T → Said) (C : X → T)
   pub turn : (t : T) (r more : List Kind) → (st t).kinds ++ r ≡ first ++ more → Stops (st t) r → (x : X) × (t ≡ C x)
   pub begins : (x : X) → (tail : List Kind) × ((sx x).kinds ≡ first ++ tail)
 
-turned_same : {X T : Type 0} (sx : X → Said) (st : T → Said) (C : X → T) → ((x : X) → st (C x) ≡ sx x) → (x : X) (u : T) (y : X) → u ≡ C y → Same sx x y → Same st (C x) u
+pub turned_same : {X T : Type 0} (sx : X → Said) (st : T → Said) (C : X → T) → ((x : X) → st (C x) ≡ sx x) → (x : X) (u : T) (y : X) → u ≡ C y → Same sx x y → Same st (C x) u
 turned_same sx st C same x u y is same_x stood at p p' =
     let p1 = subst (λ w. Placed stood at w.kept) (same x) p in
     let p2 = subst (λ w. Placed stood at w.kept) (ap st is ∙ same y) p' in
