@@ -1,3 +1,5 @@
 pub mod Heads
 pub mod OperatorTests
 pub mod Sums
+pub mod Args
+pub mod Forms
