@@ -1,5 +1,6 @@
 pub mod Heads
 pub mod OperatorTests
 pub mod Sums
-pub mod Args
+pub mod Arguments
 pub mod Forms
+pub mod Operands

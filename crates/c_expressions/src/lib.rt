@@ -5,12 +5,12 @@
 //! behind it, or refuses at the first token that no such tree goes on with.
 #![tactic(auto)]
 
-mod call;
+mod args;
 mod expr;
 mod operators;
 mod pointer;
 mod unary;
 
-pub use call::{read_args, read_bracketed, read_malloc};
+pub use args::{read_args, read_bracketed};
 pub use expr::read_expr;
 pub use unary::read_place;

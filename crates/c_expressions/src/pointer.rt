@@ -5,7 +5,7 @@ ghost use Rattle.c_tree.specs.Grammar.{pointer_said};
 ghost use Rattle.c_tree.specs.Reading.{Answers};
 ghost use Rattle.c_tree.specs.Tokens.{source, kind_at};
 
-use crate::call::{read_args, read_bracketed, read_malloc};
+use crate::args::{read_args, read_bracketed};
 use c_lexer::{Token, TokenKind};
 use c_tree::{Call, Pointer, ReadFault, look, name_at, tok_at, too_deep, unexpected};
 use sqlite_items::Boxed;
@@ -27,10 +27,7 @@ pub(crate) fn read_pointer(
         Some(TokenKind::Name) => read_named(alloc, bytes, tokens, at, room),
         Some(TokenKind::Star) => read_star(alloc, bytes, tokens, at, room),
         Some(TokenKind::OpenParen) => read_paren(alloc, bytes, tokens, at, room),
-        Some(TokenKind::Malloc) => {
-            let (call, next) = read_malloc(alloc, bytes, tokens, at, room)?;
-            Ok((Pointer::Call(call), next))
-        }
+        Some(TokenKind::Malloc) => read_malloc(alloc, bytes, tokens, at, room),
         _ => Err(unexpected(at)),
     }
 }
@@ -100,4 +97,25 @@ fn read_paren(
     let (inner, next) = read_bracketed(alloc, bytes, tokens, at, room - 1)?;
     let inner = Boxed::new(alloc, inner)?;
     Ok((Pointer::Paren(inner), next))
+}
+
+#[cycle(expr)]
+fn read_malloc(
+    alloc: Global,
+    bytes: &[u8],
+    tokens: &[Token],
+    at: usize,
+    room: usize,
+) -> Result<(Pointer, usize), ReadFault>
+    requires within { at ≤ length tokens.now }
+    requires here { kind_at tokens.now at ≡ Some k.Malloc }
+    ensures { Answers pointer_said (source bytes.now tokens.now) at room result }
+{
+    if room == 0 {
+        return Err(too_deep(at));
+    }
+    let tok = tok_at(tokens, at);
+    let (size, next) = read_bracketed(alloc, bytes, tokens, at + 1, room - 1)?;
+    let size = Boxed::new(alloc, size)?;
+    Ok((Pointer::Call(Call::Malloc { tok, size }), next))
 }

@@ -90,7 +90,7 @@ headed_parted sa sb q heads ends a b r h =
     subst (Stops (sa a)) (sym (ap (λ w. w ++ r) d.1.1)) (ends a d.0 d.1.2)
 
 -- ---- a level
-suc_pred : (room : ℕ) → room ≢ 0 → suc (room - 1) ≡ room
+pub suc_pred : (room : ℕ) → room ≢ 0 → suc (room - 1) ≡ room
 suc_pred room h = omega arith
 
 pub in_level_at : {T : Type 0} (said : T → Said) (s : Source) (at next room : ℕ) (t : T) → room ≢ 0 → ReadsAt said s at (room - 1) t next → ReadsAt (below said) s at room t next

@@ -1,15 +1,23 @@
 use Rattle.std.proofs.Common.{◌≤◌, ◌+◌, length, ℕ, ◌-◌, ◌*◌, List, ◌∷◌, ◌++◌}
+use Rattle.c_tree.specs.declared.tree.Expr.{Expr}
+use Rattle.c_tree.specs.declared.tree.Added.{Added}
+use Rattle.c_tree.specs.declared.fault.Wrong.{Wrong}
+use Rattle.c_tree.specs.Tokens.{source}
+use Rattle.c_tree.specs.Grammar.{args_of}
+use Rattle.c_tree.specs.Reading.{ReadsAt, RefusesAt}
+use Rattle.c_expressions.proofs.Sums.{tail_said, sum_run}
+use Rattle.c_expressions.proofs.Arguments.{listed}
 use Rattle.c_expressions.proofs.+expr.Given as goal
 
 -- The room falls. At the same room brackets and arguments come before expressions, those before sums, and so on down to calls.
-abbrev pub decreases-call::read_args : goal.decreases-call::read_args
-decreases-call::read_args l = 8 * l.room + 7
+abbrev pub decreases-args::read_args : goal.decreases-args::read_args
+decreases-args::read_args l = 8 * l.room + 7
 
-abbrev pub decreases-call::read_bracketed : goal.decreases-call::read_bracketed
-decreases-call::read_bracketed l = 8 * l.room + 7
+abbrev pub decreases-args::read_bracketed : goal.decreases-args::read_bracketed
+decreases-args::read_bracketed l = 8 * l.room + 7
 
-abbrev pub decreases-call::read_malloc : goal.decreases-call::read_malloc
-decreases-call::read_malloc l = 8 * l.room
+abbrev pub decreases-pointer::read_malloc : goal.decreases-pointer::read_malloc
+decreases-pointer::read_malloc l = 8 * l.room
 
 abbrev pub decreases-expr::read_added : goal.decreases-expr::read_added
 decreases-expr::read_added l = 8 * l.room + 3
@@ -46,3 +54,25 @@ decreases-unary::read_star l = 8 * l.room
 
 abbrev pub decreases-unary::read_unary : goal.decreases-unary::read_unary
 decreases-unary::read_unary l = 8 * l.room + 2
+
+-- whatever stands from `next` on completes the arguments
+abbrev pub invariant-args::read_args-loop-args : goal.invariant-args::read_args-loop-args
+invariant-args::read_args-loop-args l = record {
+  inside : l.next ≤ length l.tokens;
+  reads : (x : Expr) (xs : List Expr) (n : ℕ) → ReadsAt listed (source l.bytes l.tokens) l.next l.room (x, xs) n → ReadsAt args_of (source l.bytes l.tokens) l.fn.at l.room (l.args ++ x ∷ xs) n;
+  refuses : (token : ℕ) (why : Wrong) → RefusesAt listed (source l.bytes l.tokens) l.next l.room token why → RefusesAt args_of (source l.bytes l.tokens) l.fn.at l.room token why;
+}
+
+abbrev pub decreases-args::read_args-loop-args : goal.decreases-args::read_args-loop-args
+decreases-args::read_args-loop-args l = length l.tokens - l.next
+
+-- whatever stands from `next` on completes the sum
+abbrev pub invariant-expr::read_sum-loop-op : goal.invariant-expr::read_sum-loop-op
+invariant-expr::read_sum-loop-op l = record {
+  inside : l.next ≤ length l.tokens;
+  reads : (zs : List Added) (n : ℕ) → ReadsAt tail_said (source l.bytes l.tokens) l.next l.room zs n → ReadsAt sum_run (source l.bytes l.tokens) l.fn.at l.room (l.first, l.rest ++ zs) n;
+  refuses : (token : ℕ) (why : Wrong) → RefusesAt tail_said (source l.bytes l.tokens) l.next l.room token why → RefusesAt sum_run (source l.bytes l.tokens) l.fn.at l.room token why;
+}
+
+abbrev pub decreases-expr::read_sum-loop-op : goal.decreases-expr::read_sum-loop-op
+decreases-expr::read_sum-loop-op l = length l.tokens - l.next

@@ -1,37 +1,13 @@
-//! Calls, arguments and expressions in brackets.
-ghost use Rattle.std.specs.Prelude.{◌≡◌, ◌≤◌, ◌+◌, Some, length};
-ghost use Rattle.c_lexer.specs.declared.token.TokenKind.TheVariants as k;
-ghost use Rattle.c_tree.specs.Grammar.{call_said, args_of, condition_said};
+//! Arguments, and expressions in brackets.
+ghost use Rattle.std.specs.Prelude.{◌≤◌, ◌+◌, length};
+ghost use Rattle.c_tree.specs.Grammar.{args_of, condition_said};
 ghost use Rattle.c_tree.specs.Reading.{Answers};
-ghost use Rattle.c_tree.specs.Tokens.{source, kind_at};
+ghost use Rattle.c_tree.specs.Tokens.{source};
 
 use crate::expr::read_expr;
 use c_lexer::{Token, TokenKind};
-use c_tree::{Call, Expr, Nodes, ReadFault, look, tok_at, too_deep, unexpected};
-use sqlite_items::Boxed;
+use c_tree::{Expr, Nodes, ReadFault, look, unexpected};
 use std::alloc::Global;
-
-/// Reads `malloc` and its argument.
-#[cycle(expr)]
-pub fn read_malloc(
-    alloc: Global,
-    bytes: &[u8],
-    tokens: &[Token],
-    at: usize,
-    room: usize,
-) -> Result<(Call, usize), ReadFault>
-    requires within { at ≤ length tokens.now }
-    requires here { kind_at tokens.now at ≡ Some k.Malloc }
-    ensures { Answers call_said (source bytes.now tokens.now) at room result }
-{
-    if room == 0 {
-        return Err(too_deep(at));
-    }
-    let tok = tok_at(tokens, at);
-    let (size, next) = read_bracketed(alloc, bytes, tokens, at + 1, room - 1)?;
-    let size = Boxed::new(alloc, size)?;
-    Ok((Call::Malloc { tok, size }, next))
-}
 
 /// Reads an expression with the brackets round it. They open no level.
 #[cycle(expr)]
