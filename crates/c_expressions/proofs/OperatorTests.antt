@@ -13,6 +13,11 @@ use Rattle.c_expressions.specs.Operators.{add_of, compare_of}
 some_same : {T : Type 0} (x y : T) → Some x ≡ Some y → x ≡ y
 some_same x y e = cc
 
+-- what is no Some is None
+pub no_some : {T : Type 0} (x : Option T) → ((t : T) → x ≡ Some t → ⊥) → x ≡ None
+no_some None h = refl
+no_some (Some t) h = absurd (h t refl)
+
 add_back : (x : AddOp) → add_of (Some (add_kind x)) ≡ Some x
 add_back add.Plus = refl
 add_back add.Minus = refl

@@ -6,7 +6,7 @@ ghost use Rattle.c_tree.specs.Tokens.{source};
 
 use crate::expr::read_expr;
 use c_lexer::{Token, TokenKind};
-use c_tree::{Expr, Nodes, ReadFault, look, unexpected};
+use c_tree::{Expr, Nodes, ReadFault, is_at, unexpected};
 use std::alloc::Global;
 
 /// Reads an expression with the brackets round it. They open no level.
@@ -21,16 +21,14 @@ pub fn read_bracketed(
     requires { at ≤ length tokens.now }
     ensures { Answers condition_said (source bytes.now tokens.now) at room result }
 {
-    match look(tokens, at) {
-        Some(TokenKind::OpenParen) => {
-            let (inner, next) = read_expr(alloc, bytes, tokens, at + 1, room)?;
-            match look(tokens, next) {
-                Some(TokenKind::CloseParen) => Ok((inner, next + 1)),
-                _ => Err(unexpected(next)),
-            }
-        }
-        _ => Err(unexpected(at)),
+    if !is_at(tokens, at, TokenKind::OpenParen) {
+        return Err(unexpected(at));
     }
+    let (inner, next) = read_expr(alloc, bytes, tokens, at + 1, room)?;
+    if !is_at(tokens, next, TokenKind::CloseParen) {
+        return Err(unexpected(next));
+    }
+    Ok((inner, next + 1))
 }
 
 /// Reads the arguments of a call, up to and with its closing bracket.
@@ -46,17 +44,19 @@ pub fn read_args(
     ensures { Answers args_of (source bytes.now tokens.now) at room result }
 {
     let mut args = Nodes::new(alloc);
-    if let Some(TokenKind::CloseParen) = look(tokens, at) {
+    if is_at(tokens, at, TokenKind::CloseParen) {
         return Ok((args, at + 1));
     }
     let mut next = at;
     loop {
         let (arg, after) = read_expr(alloc, bytes, tokens, next, room)?;
         args.push(arg)?;
-        match look(tokens, after) {
-            Some(TokenKind::Comma) => next = after + 1,
-            Some(TokenKind::CloseParen) => return Ok((args, after + 1)),
-            _ => return Err(unexpected(after)),
+        if is_at(tokens, after, TokenKind::CloseParen) {
+            return Ok((args, after + 1));
         }
+        if !is_at(tokens, after, TokenKind::Comma) {
+            return Err(unexpected(after));
+        }
+        next = after + 1;
     }
 }

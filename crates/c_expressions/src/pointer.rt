@@ -7,7 +7,7 @@ ghost use Rattle.c_tree.specs.Tokens.{source, kind_at};
 
 use crate::args::{read_args, read_bracketed};
 use c_lexer::{Token, TokenKind};
-use c_tree::{Call, Pointer, ReadFault, look, name_at, tok_at, too_deep, unexpected};
+use c_tree::{Call, Pointer, ReadFault, is_at, name_at, tok_at, too_deep, unexpected};
 use sqlite_items::Boxed;
 use std::alloc::Global;
 
@@ -23,13 +23,19 @@ pub(crate) fn read_pointer(
     requires { at ≤ length tokens.now }
     ensures { Answers pointer_said (source bytes.now tokens.now) at room result }
 {
-    match look(tokens, at) {
-        Some(TokenKind::Name) => read_named(alloc, bytes, tokens, at, room),
-        Some(TokenKind::Star) => read_star(alloc, bytes, tokens, at, room),
-        Some(TokenKind::OpenParen) => read_paren(alloc, bytes, tokens, at, room),
-        Some(TokenKind::Malloc) => read_malloc(alloc, bytes, tokens, at, room),
-        _ => Err(unexpected(at)),
+    if is_at(tokens, at, TokenKind::Name) {
+        return read_named(alloc, bytes, tokens, at, room);
     }
+    if is_at(tokens, at, TokenKind::Star) {
+        return read_star(alloc, bytes, tokens, at, room);
+    }
+    if is_at(tokens, at, TokenKind::OpenParen) {
+        return read_paren(alloc, bytes, tokens, at, room);
+    }
+    if is_at(tokens, at, TokenKind::Malloc) {
+        return read_malloc(alloc, bytes, tokens, at, room);
+    }
+    Err(unexpected(at))
 }
 
 /// Reads a call of a function, or a name alone.
@@ -46,16 +52,14 @@ fn read_named(
     ensures { Answers pointer_said (source bytes.now tokens.now) at room result }
 {
     let name = name_at(alloc, bytes, tokens, at)?;
-    match look(tokens, at + 1) {
-        Some(TokenKind::OpenParen) => {
-            if room == 0 {
-                return Err(too_deep(at + 1));
-            }
-            let (args, next) = read_args(alloc, bytes, tokens, at + 2, room - 1)?;
-            Ok((Pointer::Call(Call::Function { name, args }), next))
-        }
-        _ => Ok((Pointer::Name(name), at + 1)),
+    if !is_at(tokens, at + 1, TokenKind::OpenParen) {
+        return Ok((Pointer::Name(name), at + 1));
     }
+    if room == 0 {
+        return Err(too_deep(at + 1));
+    }
+    let (args, next) = read_args(alloc, bytes, tokens, at + 2, room - 1)?;
+    Ok((Pointer::Call(Call::Function { name, args }), next))
 }
 
 #[cycle(expr)]

@@ -8,7 +8,7 @@ ghost use Rattle.c_expressions.specs.Pointers.{unary_of as made_of};
 
 use crate::pointer::read_pointer;
 use c_lexer::{Token, TokenKind};
-use c_tree::{Place, Pointer, ReadFault, Unary, look, name_at, tok_at, too_deep, unexpected};
+use c_tree::{Place, Pointer, ReadFault, Unary, is_at, name_at, tok_at, too_deep, unexpected};
 use sqlite_items::Boxed;
 use std::alloc::Global;
 
@@ -24,15 +24,17 @@ pub(crate) fn read_unary(
     requires { at ≤ length tokens.now }
     ensures { Answers unary_said (source bytes.now tokens.now) at room result }
 {
-    match look(tokens, at) {
-        Some(TokenKind::Number) => Ok((Unary::Number(tok_at(tokens, at)), at + 1)),
-        Some(TokenKind::Null) => Ok((Unary::Null(tok_at(tokens, at)), at + 1)),
-        Some(TokenKind::And) => read_address(alloc, bytes, tokens, at, room),
-        _ => {
-            let (pointer, next) = read_pointer(alloc, bytes, tokens, at, room)?;
-            Ok((unary_of(pointer), next))
-        }
+    if is_at(tokens, at, TokenKind::Number) {
+        return Ok((Unary::Number(tok_at(tokens, at)), at + 1));
     }
+    if is_at(tokens, at, TokenKind::Null) {
+        return Ok((Unary::Null(tok_at(tokens, at)), at + 1));
+    }
+    if is_at(tokens, at, TokenKind::And) {
+        return read_address(alloc, bytes, tokens, at, room);
+    }
+    let (pointer, next) = read_pointer(alloc, bytes, tokens, at, room)?;
+    Ok((unary_of(pointer), next))
 }
 
 /// What may stand behind a star, as an operand.
@@ -76,14 +78,17 @@ pub fn read_place(
     requires { at ≤ length tokens.now }
     ensures { Answers place_said (source bytes.now tokens.now) at room result }
 {
-    match look(tokens, at) {
-        Some(TokenKind::Name) => match look(tokens, at + 1) {
-            Some(TokenKind::OpenParen) => Err(unexpected(at + 1)),
-            _ => Ok((Place::Name(name_at(alloc, bytes, tokens, at)?), at + 1)),
-        },
-        Some(TokenKind::Star) => read_star(alloc, bytes, tokens, at, room),
-        _ => Err(unexpected(at)),
+    if is_at(tokens, at, TokenKind::Star) {
+        return read_star(alloc, bytes, tokens, at, room);
     }
+    if !is_at(tokens, at, TokenKind::Name) {
+        return Err(unexpected(at));
+    }
+    if is_at(tokens, at + 1, TokenKind::OpenParen) {
+        return Err(unexpected(at + 1));
+    }
+    let name = name_at(alloc, bytes, tokens, at)?;
+    Ok((Place::Name(name), at + 1))
 }
 
 #[cycle(expr)]

@@ -1,6 +1,7 @@
 -- What a part begins with, which decides a choice, and the room that a level needs.
 use Rattle.std.proofs.Common.{◌≡◌, ◌≢◌, ◌∙◌, refl, sym, ap, subst, ℕ, suc, ◌+◌, ◌-◌, ◌≤◌, Bool, true, false, List, [], ◌∷◌, ◌++◌, length, append_assoc, Some, arith}
-use Rattle.std.specs.Prelude.{◌||◌}
+use Rattle.std.proofs.lemmas.Bool.{false≢true}
+use Rattle.std.specs.Prelude.{◌||◌, ◌↔◌, IsTrue}
 use Rattle.c_lexer.specs.declared.token.TokenKind.{TokenKind}
 use Rattle.c_tree.specs.declared.fault.Wrong.{Wrong}
 use Rattle.c_tree.specs.declared.fault.Wrong.TheVariants.{Unexpected, TooDeep}
@@ -202,3 +203,7 @@ module _ {B : Type 0} (sb : B → Said) (least : Least sb) (s : Source) (at room
 -- ---- a list or a choice that is the part itself
 pub whole_refused_at : {X T : Type 0} (sx : X → Said) (st : T → Said) (C : X → T) → Turn sx st C [] → (s : Source) (at room token : ℕ) (why : Wrong) → RefusesAt sx s at room token why → RefusesAt st s at room token why
 whole_refused_at sx st C turn s at room token why r = turn_refused_at sx st C [] turn s at room token why (record { front = r.front; bad = r.bad; refuses = r.refuses; place = r.place })
+
+-- a test that fails tells that the fact does not hold
+pub not_from_false : (P : Type 0) (b : Bool) → IsTrue b ↔ P → b ≡ false → P → ⊥
+not_from_false P b h e p = false≢true (sym e ∙ h.1 p)

@@ -1,5 +1,5 @@
 //! The token at a place, and what a tree keeps of it.
-ghost use Rattle.std.specs.Prelude.{◌≡◌, IfOk, drop, take};
+ghost use Rattle.std.specs.Prelude.{◌≡◌, ◌↔◌, IsTrue, Some, IfOk, drop, take};
 ghost use Rattle.c_tree.specs.Tokens.{kind_at, tok_of, name_of, source};
 
 use crate::tree::{Name, Nodes, Tok};
@@ -14,6 +14,13 @@ pub fn look(tokens: &[Token], at: usize) -> Option<TokenKind>
         Some(token) => Some(token.kind),
         None => None,
     }
+}
+
+/// Whether the token with the number `at` is of this kind.
+pub fn is_at(tokens: &[Token], at: usize, kind: TokenKind) -> bool
+    ensures { IsTrue result ↔ (kind_at tokens.now at ≡ Some kind) }
+{
+    look(tokens, at) == Some(kind)
 }
 
 /// Where the token with the number `at` stands; line 1 where there is none.

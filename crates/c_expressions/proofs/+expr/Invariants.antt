@@ -11,49 +11,49 @@ use Rattle.c_expressions.proofs.+expr.Given as goal
 
 -- The room falls. At the same room brackets and arguments come before expressions, those before sums, and so on down to calls.
 abbrev pub decreases-args::read_args : goal.decreases-args::read_args
-decreases-args::read_args l = 8 * l.room + 7
+decreases-args::read_args l = 9 * l.room + 8
 
 abbrev pub decreases-args::read_bracketed : goal.decreases-args::read_bracketed
-decreases-args::read_bracketed l = 8 * l.room + 7
+decreases-args::read_bracketed l = 9 * l.room + 8
 
 abbrev pub decreases-pointer::read_malloc : goal.decreases-pointer::read_malloc
-decreases-pointer::read_malloc l = 8 * l.room
+decreases-pointer::read_malloc l = 9 * l.room
 
 abbrev pub decreases-expr::read_added : goal.decreases-expr::read_added
-decreases-expr::read_added l = 8 * l.room + 3
+decreases-expr::read_added l = 9 * l.room + 4
 
 abbrev pub decreases-expr::read_compared : goal.decreases-expr::read_compared
-decreases-expr::read_compared l = 8 * l.room + 5
+decreases-expr::read_compared l = 9 * l.room + 6
 
 abbrev pub decreases-expr::read_expr : goal.decreases-expr::read_expr
-decreases-expr::read_expr l = 8 * l.room + 6
+decreases-expr::read_expr l = 9 * l.room + 7
 
 abbrev pub decreases-expr::read_sum : goal.decreases-expr::read_sum
-decreases-expr::read_sum l = 8 * l.room + 4
+decreases-expr::read_sum l = 9 * l.room + 5
 
 abbrev pub decreases-pointer::read_named : goal.decreases-pointer::read_named
-decreases-pointer::read_named l = 8 * l.room
+decreases-pointer::read_named l = 9 * l.room
 
 abbrev pub decreases-pointer::read_paren : goal.decreases-pointer::read_paren
-decreases-pointer::read_paren l = 8 * l.room
+decreases-pointer::read_paren l = 9 * l.room
 
 abbrev pub decreases-pointer::read_pointer : goal.decreases-pointer::read_pointer
-decreases-pointer::read_pointer l = 8 * l.room + 1
+decreases-pointer::read_pointer l = 9 * l.room + 1
 
 abbrev pub decreases-pointer::read_star : goal.decreases-pointer::read_star
-decreases-pointer::read_star l = 8 * l.room
+decreases-pointer::read_star l = 9 * l.room
 
 abbrev pub decreases-unary::read_address : goal.decreases-unary::read_address
-decreases-unary::read_address l = 8 * l.room + 1
+decreases-unary::read_address l = 9 * l.room + 2
 
 abbrev pub decreases-unary::read_place : goal.decreases-unary::read_place
-decreases-unary::read_place l = 8 * l.room
+decreases-unary::read_place l = 9 * l.room + 1
 
 abbrev pub decreases-unary::read_star : goal.decreases-unary::read_star
-decreases-unary::read_star l = 8 * l.room
+decreases-unary::read_star l = 9 * l.room
 
 abbrev pub decreases-unary::read_unary : goal.decreases-unary::read_unary
-decreases-unary::read_unary l = 8 * l.room + 2
+decreases-unary::read_unary l = 9 * l.room + 3
 
 -- whatever stands from `next` on completes the arguments
 abbrev pub invariant-args::read_args-loop-args : goal.invariant-args::read_args-loop-args
