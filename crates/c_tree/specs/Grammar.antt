@@ -226,11 +226,12 @@ abbrev pub more_params : List Param → Said
 more_params [] = word k.CloseParen
 more_params (p ∷ ps) = word k.Comma ⨾ param_said p ⨾ more_params ps
 
--- No parameters are written in two ways, between which the tree doesn't tell: `says_void` does.
+-- No parameters are written in two ways, between which the tree doesn't tell: `says_void` does. It is for no parameters alone.
 abbrev pub params_said : Bool → List Param → Said
 params_said true [] = word k.Void ⨾ word k.CloseParen
 params_said false [] = word k.CloseParen
-params_said says_void (p ∷ ps) = param_said p ⨾ more_params ps
+params_said false (p ∷ ps) = param_said p ⨾ more_params ps
+params_said true (p ∷ ps) = record (param_said p ⨾ more_params ps) { strays = 1 }
 
 abbrev pub function_said : Bool → Function → Said
 function_said says_void f =
@@ -240,4 +241,5 @@ function_said says_void f =
 -- an item; the flag tells how no parameters are written
 abbrev pub item_said : Bool → Item → Said
 item_said says_void (item.Function f) = function_said says_void f
-item_said says_void (item.Declared d) = declaration_said d
+item_said false (item.Declared d) = declaration_said d
+item_said true (item.Declared d) = record (declaration_said d) { strays = 1 }
