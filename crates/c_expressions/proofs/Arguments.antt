@@ -1,5 +1,5 @@
 -- Lists of arguments, and expressions in brackets.
-use Rattle.std.proofs.Common.{◌≡◌, ◌≢◌, ◌∙◌, refl, sym, ap, subst, ℕ, ◌+◌, max, Bool, true, false, List, [], ◌∷◌, ◌++◌, Some, None, arith}
+use Rattle.std.proofs.Common.{◌≡◌, ◌≢◌, refl, ap, ℕ, ◌+◌, max, Bool, true, false, List, [], ◌∷◌, ◌++◌, Some, arith}
 use Rattle.std.specs.Prelude.{map}
 use Rattle.c_lexer.specs.declared.token.TokenKind.TheVariants as k
 use Rattle.c_tree.specs.declared.tree.Expr.{Expr}
@@ -8,10 +8,10 @@ use Rattle.c_tree.specs.declared.fault.Wrong.TheVariants.{Unexpected}
 use Rattle.c_tree.specs.Said.{Kind, Said}
 use Rattle.c_tree.specs.Tokens.{Source, kind_at}
 use Rattle.c_tree.specs.Grammar.{is_open, is_add, is_compare, more_args, args_of, condition_said, expr_said}
-use Rattle.c_tree.specs.Reading.{Stops, ReadsAt, RefusesAt}
-use Rattle.c_tree.proofs.Parts.{tok, kind_of, tok_single, seq, TurnIf, Least, Parted, Joined, seq_joined}
+use Rattle.c_tree.specs.Reading.{ReadsAt, RefusesAt}
+use Rattle.c_tree.proofs.Parts.{tok, seq, TurnIf, Least, Parted, Joined, seq_joined}
 use Rattle.c_tree.proofs.Places.{tok_at, tok_refused_at, joined_at, first_refused_at, second_refused_at, turn_if_at, turn_if_refused_at}
-use Rattle.c_tree.proofs.Choices.{Headed, headed_weaker, not_first, not_headed, unheaded_at, headed_parted, behind_tok_at, behind_tok_refused_at}
+use Rattle.c_tree.proofs.Choices.{Headed, not_first, not_headed, unheaded_at, headed_parted, behind_tok_at, behind_tok_refused_at}
 use Rattle.c_expressions.proofs.Heads.{is_start, expr_head, expr_goes, expr_least}
 
 -- ---- tests

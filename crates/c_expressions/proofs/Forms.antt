@@ -1,6 +1,6 @@
 -- The forms of calls, pointers, places and operands, at a place of the tokens.
-use Rattle.std.proofs.Common.{◌≡◌, ◌≢◌, ◌∙◌, refl, sym, ap, subst, ℕ, ◌+◌, ◌-◌, ◌≤◌, Bool, true, false, List, [], ◌∷◌, ◌++◌, Some, None, arith}
-use Rattle.std.specs.Prelude.{map, ◌||◌}
+use Rattle.std.proofs.Common.{◌≡◌, ◌≢◌, ◌∙◌, refl, ap, subst, ℕ, ◌+◌, ◌-◌, Bool, true, false, List, [], ◌∷◌, ◌++◌, Some, arith}
+use Rattle.std.specs.Prelude.{◌||◌}
 use Rattle.c_lexer.specs.declared.token.TokenKind.TheVariants as k
 use Rattle.c_tree.specs.declared.tree.Tok.{Tok}
 use Rattle.c_tree.specs.declared.tree.Name.{Name}
@@ -9,24 +9,21 @@ use Rattle.c_tree.specs.declared.tree.Call.TheOpen as o
 use Rattle.c_tree.specs.declared.tree.Call.TheVariants as call
 use Rattle.c_tree.specs.declared.tree.Place.{Place}
 use Rattle.c_tree.specs.declared.tree.Place.TheVariants as place
-use Rattle.c_tree.specs.declared.tree.Pointer.{Pointer, out-Pointer, out-roll-Pointer}
+use Rattle.c_tree.specs.declared.tree.Pointer.{Pointer}
 use Rattle.c_tree.specs.declared.tree.Pointer.TheVariants as pointer
-use Rattle.c_tree.specs.declared.tree.Unary.{Unary}
-use Rattle.c_tree.specs.declared.tree.Unary.TheVariants as unary
 use Rattle.c_tree.specs.declared.tree.Expr.{Expr}
 use Rattle.c_tree.specs.declared.fault.Wrong.{Wrong}
 use Rattle.c_tree.specs.declared.fault.Wrong.TheVariants.{Unexpected, TooDeep}
 use Rattle.c_tree.specs.Said.{Kind, Said, is_star, mark, named, nothing}
 use Rattle.c_tree.specs.Tokens.{Source, kind_at, tok_of, name_of}
-use Rattle.c_tree.specs.Grammar.{is_open, args_of, condition_said, expr_said, call_said, place_said, pointer_said, unary_said}
-use Rattle.c_tree.specs.Reading.{Stops, Begins, ReadsAt, RefusesAt, from}
-use Rattle.c_tree.proofs.Layers.{CallLayer, call_layer, call_made, call_made_said, call_by_layer, PlaceLayer, place_layer, place_made, place_made_said, place_by_layer, PointerLayer, pointer_layer, pointer_made, pointer_made_said, pointer_rolls, pointer_by_layer, UnaryLayer, unary_layer, unary_made, unary_made_said, unary_by_layer}
+use Rattle.c_tree.specs.Grammar.{is_open, args_of, condition_said, expr_said, call_said, place_said, pointer_said}
+use Rattle.c_tree.specs.Reading.{Stops, ReadsAt, RefusesAt, from}
+use Rattle.c_tree.proofs.Layers.{CallLayer, call_layer, call_made, call_made_said, call_by_layer, PlaceLayer, place_layer, place_made, place_made_said, place_by_layer, PointerLayer, pointer_layer, pointer_made, pointer_made_said, pointer_by_layer}
 use Rattle.c_tree.proofs.Parts.{kind_of, named_single, joined_refused_second, tok, seq, below, Turn, TurnIf, Least}
-use Rattle.c_tree.proofs.Places.{behind_token, behind_below, some_name, mark_at, named_at, turn_at, turn_refused_at, turn_if_at, turn_if_refused_at, from_more, RefusesBehind}
-use Rattle.c_tree.proofs.Bare.{bare_said, Bare, bare_at, bare_begins}
-use Rattle.c_tree.proofs.Choices.{suc_pred, single_joined, behind_single_at, not_first, not_headed, unheaded_at, in_level_at, in_level_refused_at, deep_at, deep_behind, from_at, Shallow, behind_tok_at, behind_tok_refused_at, behind_mark_at, behind_mark_refused_at}
-use Rattle.c_expressions.specs.Pointers.{of_layer, unary_of}
-use Rattle.c_expressions.proofs.Heads.{is_place_start, is_call_start, is_pointer_start, is_start, call_head, place_head, pointer_head, unary_head, place_least, pointer_least, unary_least, expr_least, some_tok}
+use Rattle.c_tree.proofs.Places.{behind_token, behind_below, some_name, named_at, turn_at, turn_refused_at, turn_if_at, turn_if_refused_at, from_more, RefusesBehind}
+use Rattle.c_tree.proofs.Bare.{Bare, bare_at, bare_begins}
+use Rattle.c_tree.proofs.Choices.{suc_pred, single_joined, behind_single_at, not_first, not_headed, unheaded_at, in_level_at, in_level_refused_at, deep_at, deep_behind, from_at, Shallow, behind_tok_at, behind_mark_at, behind_mark_refused_at}
+use Rattle.c_expressions.proofs.Heads.{is_place_start, is_call_start, is_pointer_start, call_head, place_head, pointer_head, place_least, pointer_least, expr_least, some_tok}
 use Rattle.c_expressions.proofs.Arguments.{args_least, condition_least}
 
 abbrev is_name : Kind → Bool
@@ -40,6 +37,7 @@ call_not_bare = call_by_layer (λ s t. (r r' : List Kind) → s.kinds ++ r' ≡ 
     opened : (r more : List Kind) → Some k.Name ∷ Some k.OpenParen ∷ more ≡ Some k.Name ∷ r → Stops (nothing is_open) r → ⊥
     opened [] more e h = h
     opened (x ∷ r) more e h = let is : x ≡ Some k.OpenParen = cc in let fails : true ≡ false = subst (λ x. is_open x ≡ false) is h in cc
+
     layer : (x : CallLayer) (r r' : List Kind) → (call_layer x).kinds ++ r' ≡ Some k.Name ∷ r → Stops (nothing is_open) r → ⊥
     layer (o.Function name args) r r' e h = opened r ((args_of args).kinds ++ r') e h
     layer (o.Malloc t size) r r' e h = not_first is_name (Some k.Malloc) (Some k.Name) ((condition_said size).kinds ++ r') r e refl refl

@@ -1,5 +1,5 @@
 -- What each part of an expression begins with, and what it goes on with at most.
-use Rattle.std.proofs.Common.{◌≡◌, ◌∙◌, refl, sym, ap, subst, Bool, true, false, List, [], ◌∷◌, ◌++◌, Some, None, append-nil}
+use Rattle.std.proofs.Common.{◌≡◌, ◌∙◌, refl, ap, subst, Bool, true, false, List, [], ◌∷◌, ◌++◌, Some, None}
 use Rattle.std.specs.Prelude.{map, Option}
 use Rattle.c_lexer.specs.declared.token.TokenKind.TheVariants as k
 use Rattle.c_tree.specs.declared.tree.Tok.{Tok}
@@ -15,7 +15,7 @@ use Rattle.c_tree.specs.declared.tree.Added.{Added}
 use Rattle.c_tree.specs.declared.tree.Compared.{Compared}
 use Rattle.c_tree.specs.declared.tree.Expr.{Expr, roll-Expr}
 use Rattle.c_tree.specs.declared.tree.Sum.{Sum, roll-Sum}
-use Rattle.c_tree.specs.Said.{Kind, Said, word, ◌⨾◌}
+use Rattle.c_tree.specs.Said.{Kind, Said, ◌⨾◌}
 use Rattle.c_tree.specs.Grammar.{is_open, is_add, is_compare, more_args, args_said, args_of, condition_said, sum_said, call_said, place_said, pointer_said, unary_said, added_said, compared_of, expr_said, sum_of}
 use Rattle.c_tree.proofs.Layers.{CallLayer, call_layer, call_by_layer, PlaceLayer, place_layer, place_made_said, place_by_layer, PointerLayer, pointer_layer, pointer_made_said, pointer_rolls, pointer_by_layer, UnaryLayer, unary_layer, unary_made_said, unary_by_layer, added_is, compared_by_layer, sum_is, sum_by_layer, expr_is, expr_parts, expr_by_layer}
 use Rattle.c_tree.proofs.Parts.{Least}

@@ -1,19 +1,18 @@
 -- The forms of an operand, at a place of the tokens.
-use Rattle.std.proofs.Common.{◌≡◌, ◌≢◌, ◌∙◌, refl, sym, ap, subst, ℕ, ◌+◌, Bool, true, false, List, [], ◌∷◌, ◌++◌, Some, None}
+use Rattle.std.proofs.Common.{◌≡◌, ◌≢◌, ◌∙◌, refl, sym, ap, ℕ, ◌+◌, Bool, true, false, List, [], ◌∷◌, ◌++◌, Some}
 use Rattle.c_lexer.specs.declared.token.TokenKind.TheVariants as k
 use Rattle.c_tree.specs.declared.tree.Tok.{Tok}
 use Rattle.c_tree.specs.declared.tree.Call.TheOpen as o
-use Rattle.c_tree.specs.declared.tree.Call.{Call}
 use Rattle.c_tree.specs.declared.tree.Place.{Place}
 use Rattle.c_tree.specs.declared.tree.Place.TheVariants as place
-use Rattle.c_tree.specs.declared.tree.Pointer.{Pointer, out-Pointer, roll-Pointer, out-roll-Pointer}
+use Rattle.c_tree.specs.declared.tree.Pointer.{Pointer, out-roll-Pointer}
 use Rattle.c_tree.specs.declared.tree.Pointer.TheVariants as pointer
 use Rattle.c_tree.specs.declared.tree.Unary.{Unary}
 use Rattle.c_tree.specs.declared.tree.Unary.TheVariants as unary
 use Rattle.c_tree.specs.declared.fault.Wrong.{Wrong}
 use Rattle.c_tree.specs.Said.{Kind, Said, mark}
 use Rattle.c_tree.specs.Tokens.{Source, kind_at, tok_of}
-use Rattle.c_tree.specs.Grammar.{condition_said, expr_said, call_said, place_said, pointer_said, unary_said}
+use Rattle.c_tree.specs.Grammar.{expr_said, call_said, place_said, pointer_said, unary_said}
 use Rattle.c_tree.specs.Reading.{Stops, ReadsAt, RefusesAt}
 use Rattle.c_tree.proofs.Layers.{PlaceLayer, place_made, place_made_said, place_by_layer, PointerLayer, pointer_layer, pointer_made, pointer_rolls, pointer_by_layer, UnaryLayer, unary_layer, unary_made, unary_made_said, unary_by_layer}
 use Rattle.c_tree.proofs.Parts.{seq, TurnIf}

@@ -10,12 +10,12 @@ use Rattle.c_tree.specs.declared.tree.Compared.{Compared, out-Compared, roll-Com
 use Rattle.c_tree.specs.declared.tree.Expr.{Expr, out-Expr, roll-Expr, roll-out-Expr}
 use Rattle.c_tree.specs.declared.tree.Sum.{Sum, out-Sum, roll-Sum, roll-out-Sum}
 use Rattle.c_tree.specs.declared.fault.Wrong.{Wrong}
-use Rattle.c_tree.specs.Said.{Kind, Kept, Said, nothing, moved, ◌⨾◌}
-use Rattle.c_tree.specs.Tokens.{Source, kind_at, tok_of, name_of}
-use Rattle.c_tree.specs.Grammar.{is_open, is_add, is_compare, add_kind, compare_kind, sum_said, unary_said, added_said, compared_of, expr_said, sum_of}
+use Rattle.c_tree.specs.Said.{Kind, Said, nothing, moved}
+use Rattle.c_tree.specs.Tokens.{Source, kind_at, tok_of}
+use Rattle.c_tree.specs.Grammar.{is_add, is_compare, add_kind, compare_kind, sum_said, unary_said, added_said, compared_of, expr_said, sum_of}
 use Rattle.c_tree.specs.Reading.{Stops, Only, ReadsAt, RefusesAt}
 use Rattle.c_tree.proofs.Layers.{added_is, compared_is, sum_is, expr_is, expr_parts}
-use Rattle.c_tree.proofs.Parts.{seq, Turn, TurnIf, Least, Joined, operator, operator_single}
+use Rattle.c_tree.proofs.Parts.{seq, Turn, TurnIf, Joined, operator, operator_single}
 use Rattle.c_tree.proofs.Places.{from_some, operator_at, joined_at, first_refused_at, second_refused_at, turn_at, turn_if_at, turn_if_refused_at}
 use Rattle.c_tree.proofs.Choices.{or_first, or_second, or_both, whole_refused_at, behind_single_at, behind_single_refused_at}
 use Rattle.c_expressions.proofs.Heads.{unary_goes, added_goes, sum_goes, unary_least, sum_least}

@@ -1,5 +1,4 @@
 pub mod Bases
-pub mod Behind
 pub mod Branches
 pub mod Faults
 pub mod Flagged

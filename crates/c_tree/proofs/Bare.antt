@@ -5,9 +5,9 @@ use Rattle.c_tree.specs.declared.tree.Name.{Name}
 use Rattle.c_tree.specs.Said.{Kind, Said, named, nothing}
 use Rattle.c_tree.specs.Tokens.{Source, kind_at, name_of}
 use Rattle.c_tree.specs.Grammar.{is_open, bare}
-use Rattle.c_tree.specs.Reading.{Placed, Stops, Same, Only, Begins, ReadsAt, from}
+use Rattle.c_tree.specs.Reading.{Placed, Stops, Only, Begins, ReadsAt, from}
 use Rattle.c_tree.proofs.Parts.{named_single, turned_same}
-use Rattle.c_tree.proofs.Places.{from_more, from_some, named_at, some_name}
+use Rattle.c_tree.proofs.Places.{from_some, named_at, some_name}
 use Rattle.c_tree.proofs.Choices.{or_false, or_first}
 
 abbrev pub bare_said : Name → Said

@@ -1,5 +1,5 @@
 -- The layers of each type: what each spells, and that each tree is made of one.
-use Rattle.std.proofs.Common.{◌≡◌, ◌∙◌, refl, sym, ap, subst, List, Some, None}
+use Rattle.std.proofs.Common.{◌≡◌, ◌∙◌, sym, ap, subst, Some, None}
 use Rattle.std.specs.Prelude.{map, Option}
 use Rattle.c_lexer.specs.declared.token.TokenKind.TheVariants as k
 use Rattle.c_tree.specs.declared.tree.Call.{Call, Call-F, out-Call, roll-Call, roll-out-Call, fold-roll-Call}
@@ -19,7 +19,7 @@ use Rattle.c_tree.specs.declared.tree.Stmt.{Stmt, Stmt-F, out-Stmt, roll-Stmt, r
 use Rattle.c_tree.specs.declared.tree.Stmt.TheOpen as s
 use Rattle.c_tree.specs.declared.tree.Stmt.TheVariants as stmt
 use Rattle.c_tree.specs.Said.{Said, word, mark, named, ◌⨾◌, deeper}
-use Rattle.c_tree.specs.Grammar.{bracketed, bare, add_kind, compare_kind, compared_said, sum_said, args_of, condition_said, call_step, place_step, pointer_step, unary_step, added_step, compared_step, expr_step, sum_step, call_said, place_said, pointer_said, unary_said, added_said, compared_of, expr_said, sum_of, declaration_said, block_said, branches_said, returned_said, stmt_step, stmt_said}
+use Rattle.c_tree.specs.Grammar.{bare, add_kind, compare_kind, compared_said, sum_said, args_of, condition_said, call_step, place_step, pointer_step, unary_step, added_step, compared_step, expr_step, sum_step, call_said, place_said, pointer_said, unary_said, added_said, compared_of, expr_said, sum_of, declaration_said, block_said, branches_said, returned_said, stmt_step, stmt_said}
 
 -- ---- calls
 abbrev pub CallLayer : Type 0

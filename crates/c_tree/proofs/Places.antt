@@ -1,6 +1,6 @@
 -- Reading and refusing at a place of the tokens.
 use Rattle.std.proofs.Common.{◌≡◌, ◌≢◌, ◌∙◌, refl, sym, ap, subst, inl, inr, ℕ, suc, ◌+◌, ◌≤◌, Bool, true, List, [], ◌∷◌, ◌++◌, length, drop, length-append, add-one, Some, None, arith}
-use Rattle.std.specs.Prelude.{◌<◌, get_or, slice_get, map}
+use Rattle.std.specs.Prelude.{◌<◌, get_or, slice_get}
 use Rattle.std.proofs.Math.Seq.{drop-cons}
 use Rattle.std.proofs.lemmas.Option.{slice_get_cases}
 use Rattle.std.specs.Option.{option_map}
@@ -8,7 +8,6 @@ use Rattle.std.proofs.lemmas.List.{drop_all}
 use Rattle.c_lexer.specs.declared.token.Token.{Token}
 use Rattle.c_lexer.specs.declared.token.TokenKind.{TokenKind}
 use Rattle.c_lexer.specs.declared.token.TokenKind.TheVariants as k
-use Rattle.c_tree.specs.declared.tree.Tok.{Tok}
 use Rattle.c_tree.specs.declared.tree.Name.{Name}
 use Rattle.c_tree.specs.declared.fault.Wrong.{Wrong}
 use Rattle.c_tree.specs.declared.fault.Wrong.TheVariants.{Unexpected}

@@ -1,5 +1,5 @@
 -- A text with its tokens, and what stands at a place of them.
-use Rattle.std.specs.Prelude.{ℕ, List, [], take, drop, slice_get, unwrap_or, Option, Some, None}
+use Rattle.std.specs.Prelude.{ℕ, List, [], take, drop, slice_get, unwrap_or}
 use Rattle.std.specs.Option.{option_map}
 use Rattle.c_lexer.specs.declared.token.Token.{Token}
 use Rattle.c_tree.specs.declared.tree.Tok.{Tok}

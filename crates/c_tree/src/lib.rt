@@ -8,6 +8,6 @@ mod tree;
 pub use fault::{ReadFault, Wrong, too_deep, unexpected};
 pub use standing::{is_at, look, name_at, tok_at};
 pub use tree::{
-    AddOp, Added, Base, Call, CompareOp, Compared, Declaration, Expr, Function, Item, Name, NameBytes, Nodes, Param,
-    Place, Pointer, Program, Stmt, Sum, Tok, Unary, Var,
+    AddOp, Added, Base, Call, CompareOp, Compared, Declaration, Expr, Function, Item, Name,
+    NameBytes, Nodes, Param, Place, Pointer, Program, Stmt, Sum, Tok, Unary, Var,
 };

@@ -32,7 +32,10 @@ pub fn tok_at(tokens: &[Token], at: usize) -> Tok
             number: at,
             line: token.line,
         },
-        None => Tok { number: at, line: 1 },
+        None => Tok {
+            number: at,
+            line: 1,
+        },
     }
 }
 

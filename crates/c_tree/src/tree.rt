@@ -2,8 +2,8 @@
 //!
 //! A tree's `tok` is that of the first token that it spells, which for `Compared` and `Added` is the
 //! operator. `Nodes` are seen by contracts as lists, and a `Boxed` as its value.
-pub use sqlite_items::Items as Nodes;
 use sqlite_items::Boxed;
+pub use sqlite_items::Items as Nodes;
 
 /// Where a token stands.
 #[derive(Clone, Copy, PartialEq, Eq, Debug, Drop)]
@@ -87,7 +87,10 @@ pub enum Stmt {
     /// `declaration`
     Declared(Declaration),
     /// `place "=" expr ";"`
-    Assign { place: Place, value: Expr },
+    Assign {
+        place: Place,
+        value: Expr,
+    },
     /// `call ";"`
     Call(Call),
     /// `"{" { stmt } "}"`
@@ -101,9 +104,15 @@ pub enum Stmt {
         other: Option<Boxed<Stmt>>,
     },
     /// `"while" "(" expr ")" stmt`
-    While { condition: Expr, body: Boxed<Stmt> },
+    While {
+        condition: Expr,
+        body: Boxed<Stmt>,
+    },
     /// `"return" [ expr ] ";"`
-    Return { tok: Tok, value: Option<Expr> },
+    Return {
+        tok: Tok,
+        value: Option<Expr>,
+    },
 }
 
 /// `name | "*" pointer`

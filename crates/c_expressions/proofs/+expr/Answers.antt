@@ -1,13 +1,13 @@
-use Rattle.std.proofs.Common.{◌≡◌, sym, ◌∙◌, ap, subst, ◌+◌, ◌-◌, [], ◌∷◌, ◌++◌, append_assoc, arith, refl, rules, Some, None}
+use Rattle.std.proofs.Common.{◌≡◌, sym, ◌∙◌, ap, subst, ◌+◌, ◌-◌, [], ◌∷◌, ◌++◌, append_assoc, arith, rules, Some}
 use Rattle.c_lexer.specs.declared.token.TokenKind.TheVariants as k
 use Rattle.c_tree.specs.declared.tree.Call.TheVariants as call
 use Rattle.c_tree.specs.declared.tree.Place.TheVariants as place
 use Rattle.c_tree.specs.declared.tree.Pointer.TheVariants as pointer
 use Rattle.c_tree.specs.declared.tree.Unary.TheVariants as unary
 use Rattle.c_tree.specs.declared.fault.Wrong.TheVariants.{Unexpected, TooDeep}
-use Rattle.c_tree.specs.Tokens.{source, kind_at, tok_of, name_of}
+use Rattle.c_tree.specs.Tokens.{source, kind_at, tok_of}
 use Rattle.c_tree.specs.Grammar.{is_add, is_compare, add_kind, compare_kind, args_of, condition_said, place_said, pointer_said, unary_said, added_said, compared_of, expr_said, sum_of}
-use Rattle.c_tree.specs.Reading.{ReadsAt, RefusesAt}
+use Rattle.c_tree.specs.Reading.{ReadsAt}
 use Rattle.c_tree.proofs.Places.{from_more}
 use Rattle.c_tree.proofs.Choices.{not_from_false}
 use Rattle.c_tree.proofs.Handed.{handed_on, refused}

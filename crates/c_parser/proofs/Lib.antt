@@ -1,0 +1,4 @@
+pub mod Wholes
+pub mod Vars
+pub mod Stmts
+pub mod Blocks
