@@ -26,15 +26,15 @@ use Rattle.c_parser.proofs.Stmts.{is_semicolon, is_semicolon_is, is_brace, is_br
 abbrev pub listed : Stmt × List Stmt → Said
 listed = seq stmt_said block_of
 
-abbrev is_no_else : Kind → Bool
+abbrev pub is_no_else : Kind → Bool
 is_no_else (Some k.Else) = false
 is_no_else _ = true
 
-abbrev is_close : Kind → Bool
+abbrev pub is_close : Kind → Bool
 is_close (Some k.CloseBrace) = true
 is_close _ = false
 
-abbrev is_no_close : Kind → Bool
+abbrev pub is_no_close : Kind → Bool
 is_no_close (Some k.CloseBrace) = false
 is_no_close _ = true
 
@@ -64,10 +64,10 @@ block_least = record { tree = []; flat = refl; nearest = refl }
 listed_joined : Joined stmt_said block_of listed
 listed_joined = seq_joined stmt_said block_of (headed_parted stmt_said block_of is_no_else block_head (λ t a h. stmt_goes t a (no_else_false a h))) block_least
 
-abbrev none_of : Unit {0} → List Stmt
+abbrev pub none_of : Unit {0} → List Stmt
 none_of x = []
 
-abbrev cons_of : Stmt × List Stmt → List Stmt
+abbrev pub cons_of : Stmt × List Stmt → List Stmt
 cons_of x = x.0 ∷ x.1
 
 close_no_stmt : (a : Kind) → is_close a ≡ true → is_stmt a ≡ false
@@ -115,7 +115,7 @@ stmt_advances s at next room x r =
     omega arith
 
 -- ---- `;`
-abbrev empty_of : Unit {0} → Stmt
+abbrev pub empty_of : Unit {0} → Stmt
 empty_of x = stmt.Empty
 
 empty_turn : TurnIf (tok k.Semicolon) stmt_said empty_of is_semicolon
@@ -129,10 +129,10 @@ pub empty_at : (s : Source) (at room : ℕ) → kind_at s.tokens at ≡ Some k.S
 empty_at s at room e = turn_if_at (tok k.Semicolon) stmt_said empty_of is_semicolon empty_turn s at (at + 1) room tt (tok_at s at room k.Semicolon e)
 
 -- ---- a block
-abbrev block_parts : Unit {0} × List Stmt → Said
+abbrev pub block_parts : Unit {0} × List Stmt → Said
 block_parts = below (seq (tok k.OpenBrace) block_of)
 
-abbrev block_made : Unit {0} × List Stmt → Stmt
+abbrev pub block_made : Unit {0} × List Stmt → Stmt
 block_made x = stmt.Block x.1
 
 block_turn : TurnIf block_parts stmt_said block_made is_brace
@@ -163,7 +163,7 @@ abbrev pub else_said : Option Stmt → Said
 else_said None = nothing is_else
 else_said (Some other) = word k.Else ⨾ stmt_said other
 
-abbrev both_said : Stmt × Option Stmt → Said
+abbrev pub both_said : Stmt × Option Stmt → Said
 both_said x = branches_of x.0 x.1
 
 stray_zero : (b : Bool) → b ≡ false → stray b ≡ 0
@@ -219,7 +219,7 @@ branches_joined = record {
   least_fits = λ a na. na;
 }
 
-abbrev other_of : Unit {0} × Stmt → Option Stmt
+abbrev pub other_of : Unit {0} × Stmt → Option Stmt
 other_of x = Some x.1
 
 no_else : (a : Kind) (r more : List Kind) → r ≡ a ∷ more → is_else a ≡ true → Stops (nothing is_else) r → ⊥
@@ -247,7 +247,7 @@ no_else_at s at room inside no =
       placed = tt;
     }
 
-abbrev as_branches : Stmt × Option Stmt → Branches
+abbrev pub as_branches : Stmt × Option Stmt → Branches
 as_branches x = record { body = x.0; other = x.1 }
 
 branches_turn : Turn both_said branches_read as_branches []
@@ -280,7 +280,7 @@ other_refused s at next room body token why r e t =
 pub branches_least : Least branches_read
 branches_least = record { tree = as_branches (stmt_least.tree, None); flat = stmt_least.flat; nearest = stmt_least.nearest }
 
-abbrev tested : Expr × Branches → Said
+abbrev pub tested : Expr × Branches → Said
 tested = seq condition_said branches_read
 
 tested_joined : Joined condition_said branches_read tested
@@ -289,10 +289,10 @@ tested_joined = seq_joined condition_said branches_read (quiet_parted condition_
 tested_least : Least tested
 tested_least = record { tree = (condition_least.tree, branches_least.tree); flat = let a = condition_least.flat in let b = branches_least.flat in omega arith; nearest = let a = condition_least.nearest in let b = branches_least.nearest in omega arith }
 
-abbrev if_parts : Unit {0} × (Expr × Branches) → Said
+abbrev pub if_parts : Unit {0} × (Expr × Branches) → Said
 if_parts = below (seq (tok k.If) tested)
 
-abbrev if_made : Unit {0} × (Expr × Branches) → Stmt
+abbrev pub if_made : Unit {0} × (Expr × Branches) → Stmt
 if_made x = stmt.If x.1.0 x.1.1.body x.1.1.other
 
 branches_same : (body : Stmt) (other : Option Stmt) → layer_branches body other ≡ branches_of body other
@@ -336,7 +336,7 @@ pub if_deep : (s : Source) (at room : ℕ) → kind_at s.tokens at ≡ Some k.If
 if_deep s at room e z = deep_at if_parts stmt_said if_made is_if if_turn (λ x. omega arith) k.If if_shallow refl stmt_least s at room e z
 
 -- ---- `while`
-abbrev repeated : Expr × Stmt → Said
+abbrev pub repeated : Expr × Stmt → Said
 repeated = seq condition_said stmt_said
 
 repeated_joined : Joined condition_said stmt_said repeated
@@ -345,10 +345,10 @@ repeated_joined = seq_joined condition_said stmt_said (quiet_parted condition_sa
 repeated_least : Least repeated
 repeated_least = record { tree = (condition_least.tree, stmt_least.tree); flat = let a = condition_least.flat in let b = stmt_least.flat in omega arith; nearest = let a = condition_least.nearest in let b = stmt_least.nearest in omega arith }
 
-abbrev while_parts : Unit {0} × (Expr × Stmt) → Said
+abbrev pub while_parts : Unit {0} × (Expr × Stmt) → Said
 while_parts = below (seq (tok k.While) repeated)
 
-abbrev while_made : Unit {0} × (Expr × Stmt) → Stmt
+abbrev pub while_made : Unit {0} × (Expr × Stmt) → Stmt
 while_made x = stmt.While x.1.0 x.1.1
 
 while_turn : TurnIf while_parts stmt_said while_made is_while

@@ -145,7 +145,7 @@ not_star (Some k.Star) h = absurd (h refl)
 not_star _ h = refl
 
 -- ---- the value of a variable
-abbrev value_some_of : Unit {0} × Expr → Option Expr
+abbrev pub value_some_of : Unit {0} × Expr → Option Expr
 value_some_of x = Some x.1
 
 no_assign : (a : Kind) (r more : List Kind) → r ≡ a ∷ more → is_assign a ≡ true → Stops (nothing is_assign) r → ⊥
@@ -207,7 +207,7 @@ value_ends None a e = none_ends a e
 value_ends (Some v) a e = expr_ends v a e
 
 -- ---- a variable
-abbrev named_value : Name × Option Expr → Said
+abbrev pub named_value : Name × Option Expr → Said
 named_value = seq named value_said
 
 named_value_joined : Joined named value_said named_value
@@ -216,13 +216,13 @@ named_value_joined = single_joined named (kind_of k.Name) named_single value_sai
 named_value_least : Least named_value
 named_value_least = record { tree = (some_name, None); flat = refl; nearest = refl }
 
-abbrev var_parts : ℕ × (Name × Option Expr) → Said
+abbrev pub var_parts : ℕ × (Name × Option Expr) → Said
 var_parts = seq stars named_value
 
-abbrev var_of : ℕ × (Name × Option Expr) → Var
+abbrev pub var_of : ℕ × (Name × Option Expr) → Var
 var_of x = record { stars = x.0; name = x.1.0; value = x.1.1 }
 
-abbrev is_name : Kind → Bool
+abbrev pub is_name : Kind → Bool
 is_name (Some k.Name) = true
 is_name _ = false
 
@@ -271,17 +271,17 @@ listed_joined = seq_joined var_said more_vars (headed_parted var_said more_vars 
 pub listed_least : Least listed_vars
 listed_least = record { tree = (var_least.tree, []); flat = refl; nearest = refl }
 
-abbrev none_of : Unit {0} → List Var
+abbrev pub none_of : Unit {0} → List Var
 none_of x = []
 
-abbrev comma_of : Unit {0} × (Var × List Var) → List Var
+abbrev pub comma_of : Unit {0} × (Var × List Var) → List Var
 comma_of x = x.1.0 ∷ x.1.1
 
-abbrev is_semicolon : Kind → Bool
+abbrev pub is_semicolon : Kind → Bool
 is_semicolon (Some k.Semicolon) = true
 is_semicolon _ = false
 
-abbrev is_comma : Kind → Bool
+abbrev pub is_comma : Kind → Bool
 is_comma (Some k.Comma) = true
 is_comma _ = false
 
@@ -329,7 +329,7 @@ more_missing_at s at room p q = unheaded_at more_vars is_more_var more_head more
 abbrev pub declared_parts : Base × (Var × List Var) → Said
 declared_parts = seq base_said listed_vars
 
-abbrev declared_of : Base × (Var × List Var) → Declaration
+abbrev pub declared_of : Base × (Var × List Var) → Declaration
 declared_of x = record { base = x.0; vars = x.1.0 ∷ x.1.1 }
 
 no_vars : (b : Base) → (declaration_said (record { base = b; vars = [] })).strays ≡ 0 → ⊥
