@@ -17,9 +17,9 @@ use Rattle.c_tree.specs.declared.fault.Wrong.{Wrong}
 use Rattle.c_tree.specs.declared.fault.Wrong.TheVariants.{Unexpected, TooDeep}
 use Rattle.c_tree.specs.Said.{Kind, Said, word, ◌⨾◌}
 use Rattle.c_tree.specs.Tokens.{Source, kind_at, name_of}
-use Rattle.c_tree.specs.Grammar.{is_open, args_of, block_said, returned_said, vars_said, declaration_said, place_said, call_said, pointer_said, expr_said, stmt_said}
+use Rattle.c_tree.specs.Grammar.{is_open, args_of, condition_said, block_said, returned_said, vars_said, declaration_said, place_said, call_said, pointer_said, expr_said, stmt_said}
 use Rattle.c_tree.specs.Reading.{Stops, Begins, ReadsAt, RefusesAt, from}
-use Rattle.c_tree.proofs.Layers.{CallLayer, call_layer, call_by_layer, StmtLayer, stmt_layer, stmt_made, stmt_made_said, stmt_by_layer, PlaceLayer, place_layer, place_by_layer, place_made_said, call_made_said}
+use Rattle.c_tree.proofs.Layers.{branches_of, CallLayer, call_layer, call_by_layer, StmtLayer, stmt_layer, stmt_made, stmt_made_said, stmt_by_layer, PlaceLayer, place_layer, place_by_layer, place_made_said, call_made_said}
 use Rattle.c_tree.proofs.Parts.{tok, kind_of, tok_single, front_head, stops_same, seq, seq_joined, Least, joined_refused_first, joined_refused_second, Turn, Joined}
 use Rattle.c_tree.proofs.Places.{some_name, from_more, from_some, first_refused_at, second_refused_at, RefusesBehind, tok_at, tok_refused_at, joined_at, turn_at, turn_refused_at}
 use Rattle.c_tree.proofs.Choices.{quiet_parted, single_joined, behind_tok_at, behind_tok_refused_at, deep_behind, from_at}
@@ -173,8 +173,8 @@ assign_turned (s.Assign p v) r e = ((p, (tt, (v, tt))), refl)
 assign_turned (s.Call c) r e = absurd (no_truth (is_ahead ((call_said c).kinds ++ (Some k.Semicolon ∷ r))) (ap is_ahead (sym (append_assoc (call_said c).kinds (Some k.Semicolon ∷ []) r)) ∙ e) (call_not_ahead c (Some k.Semicolon ∷ r)))
 assign_turned (s.Block xs) r e = absurd (no_truth (is_ahead ((stmt_layer (s.Block xs)).kinds ++ r)) e (ahead_false (Some k.OpenBrace) (λ b. refl) ((block_said (map stmt_said xs)).kinds ++ r)))
 assign_turned s.Empty r e = absurd (no_truth (is_ahead (Some k.Semicolon ∷ r)) e (ahead_false (Some k.Semicolon) (λ b. refl) r))
-assign_turned (s.If c b i) r e = absurd (no_truth (is_ahead ((stmt_layer (s.If c b i)).kinds ++ r)) e (ahead_false (Some k.If) (λ b. refl) _))
-assign_turned (s.While c b) r e = absurd (no_truth (is_ahead ((stmt_layer (s.While c b)).kinds ++ r)) e (ahead_false (Some k.While) (λ b. refl) _))
+assign_turned (s.If c b i) r e = absurd (no_truth (is_ahead ((stmt_layer (s.If c b i)).kinds ++ r)) e (ahead_false (Some k.If) (λ b. refl) ((condition_said c ⨾ branches_of b i).kinds ++ r)))
+assign_turned (s.While c b) r e = absurd (no_truth (is_ahead ((stmt_layer (s.While c b)).kinds ++ r)) e (ahead_false (Some k.While) (λ b. refl) ((condition_said c ⨾ stmt_said b).kinds ++ r)))
 assign_turned (s.Return t v) r e = absurd (no_truth (is_ahead ((stmt_layer (s.Return t v)).kinds ++ r)) e (ahead_false (Some k.Return) (λ b. refl) ((returned_said v).kinds ++ r)))
 
 -- a place that stops before what follows begins an assignment

@@ -238,10 +238,10 @@ none_only None r r' e h h' n = (e, λ stood at p p'. refl)
 none_only (Some other) r r' e h h' n = absurd (no_else (Some k.Else) r ((stmt_said other).kinds ++ r') e refl h)
 
 no_else_at : (s : Source) (at room : ℕ) → at ≤ length s.tokens → is_else (kind_at s.tokens at) ≡ false → ReadsAt else_said s at room None at
-no_else_at s at room inside no =
+no_else_at s at room inside fails =
     let n = from_some s at in
     record {
-      reads = record { spelled = refl; within = omega arith; nearest = refl; stops = subst (Stops (nothing is_else)) (sym n.1) no; only = none_only };
+      reads = record { spelled = refl; within = omega arith; nearest = refl; stops = subst (Stops (nothing is_else)) (sym n.1) fails; only = none_only };
       inside = inside;
       place = omega arith;
       placed = tt;
@@ -258,9 +258,9 @@ not_else (Some k.Else) h = absurd (h refl)
 not_else _ h = refl
 
 pub branches_at : (s : Source) (at next room : ℕ) (body : Stmt) → ReadsAt stmt_said s at room body next → is_else (kind_at s.tokens next) ≡ false → ReadsAt branches_read s at room (as_branches (body, None)) next
-branches_at s at next room body r no =
+branches_at s at next room body r fails =
     turn_at both_said branches_read as_branches [] branches_turn s at next room (body, None)
-    (joined_at stmt_said else_said both_said branches_joined s at next next room body None r (no_else_at s next room r.inside no))
+    (joined_at stmt_said else_said both_said branches_joined s at next next room body None r (no_else_at s next room r.inside fails))
 
 pub branches_else_at : (s : Source) (at next after room : ℕ) (body other : Stmt) → ReadsAt stmt_said s at room body next → kind_at s.tokens next ≡ Some k.Else → ReadsAt stmt_said s (next + 1) room other after → ReadsAt branches_read s at room (as_branches (body, Some other)) after
 branches_else_at s at next after room body other r e t =

@@ -5,3 +5,4 @@ pub mod Blocks
 pub mod SimpleForms
 pub mod Ahead
 pub mod Assigned
+pub mod ParamForms

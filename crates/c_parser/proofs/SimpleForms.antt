@@ -103,7 +103,7 @@ pub returned_refused_at : (s : Source) (at room token : ℕ) (why : Wrong) → k
 returned_refused_at s at room token why other r = turn_if_refused_at ended returned_said some_of is_no_semicolon some_turn s at room token why (not_semicolon (kind_at s.tokens at) other) (ended_refused_at s at room token why r)
 
 pub returned_unended_at : (s : Source) (at room next : ℕ) (e : Expr) → kind_at s.tokens at ≢ Some k.Semicolon → ReadsAt expr_said s at room e next → kind_at s.tokens next ≢ Some k.Semicolon → RefusesAt returned_said s at room next Unexpected
-returned_unended_at s at room next e other r no = turn_if_refused_at ended returned_said some_of is_no_semicolon some_turn s at room next Unexpected (not_semicolon (kind_at s.tokens at) other) (unended_at s at room next e r no)
+returned_unended_at s at room next e other r missing = turn_if_refused_at ended returned_said some_of is_no_semicolon some_turn s at room next Unexpected (not_semicolon (kind_at s.tokens at) other) (unended_at s at room next e r missing)
 
 -- ---- `return`
 abbrev return_parts : Tok × Option Expr → Said

@@ -115,10 +115,10 @@ stars_only (suc n) (suc m) r r' e h h' z =
 
 -- no star: nothing more stands there
 pub stars_end_at : (s : Source) (at room : ℕ) → at ≤ length s.tokens → is_star (kind_at s.tokens at) ≡ false → ReadsAt stars s at room 0 at
-stars_end_at s at room inside no =
+stars_end_at s at room inside fails =
     let n = from_some s at in
     record {
-      reads = record { spelled = refl; within = omega arith; nearest = refl; stops = subst (Stops (stars 0)) (sym n.1) no; only = stars_only 0 };
+      reads = record { spelled = refl; within = omega arith; nearest = refl; stops = subst (Stops (stars 0)) (sym n.1) fails; only = stars_only 0 };
       inside = inside;
       place = omega arith;
       placed = tt;
@@ -164,10 +164,10 @@ none_only None r r' e h h' n = (e, λ stood at p p'. refl)
 none_only (Some v) r r' e h h' n = absurd (no_assign (Some k.Assign) r ((expr_said v).kinds ++ r') e refl h)
 
 pub no_value_at : (s : Source) (at room : ℕ) → at ≤ length s.tokens → is_assign (kind_at s.tokens at) ≡ false → ReadsAt value_said s at room None at
-no_value_at s at room inside no =
+no_value_at s at room inside fails =
     let n = from_some s at in
     record {
-      reads = record { spelled = refl; within = omega arith; nearest = refl; stops = subst (Stops (nothing is_assign)) (sym n.1) no; only = none_only };
+      reads = record { spelled = refl; within = omega arith; nearest = refl; stops = subst (Stops (nothing is_assign)) (sym n.1) fails; only = none_only };
       inside = inside;
       place = omega arith;
       placed = tt;
@@ -226,7 +226,7 @@ abbrev pub is_name : Kind → Bool
 is_name (Some k.Name) = true
 is_name _ = false
 
-name_no_star : (a : Kind) → is_name a ≡ true → is_star a ≡ false
+pub name_no_star : (a : Kind) → is_name a ≡ true → is_star a ≡ false
 name_no_star (Some k.Name) e = refl
 name_no_star _ e = absurd (cc)
 
@@ -269,6 +269,7 @@ pub listed_joined : Joined var_said more_vars listed_vars
 listed_joined = seq_joined var_said more_vars (headed_parted var_said more_vars is_more_var more_head (λ v a h. value_ends v.value a h)) more_least
 
 pub listed_least : Least listed_vars
+unfolding var_least
 listed_least = record { tree = (var_least.tree, []); flat = refl; nearest = refl }
 
 abbrev pub none_of : Unit {0} → List Var

@@ -1,4 +1,5 @@
 pub mod Bases
+pub mod Behind
 pub mod Branches
 pub mod Faults
 pub mod Flagged
