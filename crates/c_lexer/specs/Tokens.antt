@@ -3,7 +3,6 @@ use Rattle.std.specs.Prelude.{ℕ, zero, suc, ◌+◌, ◌-◌, List, [], ◌∷
 use Rattle.c_lexer.specs.declared.token.Token.{Token}
 use Rattle.c_lexer.specs.declared.fault.LexFault.{LexFault}
 use Rattle.c_lexer.specs.declared.fault.LexFault.TheVariants.{At}
-use Rattle.c_lexer.specs.declared.piece.Piece.{Piece}
 use Rattle.c_lexer.specs.declared.piece.Meaning.{Meaning}
 use Rattle.c_lexer.specs.declared.piece.Meaning.TheVariants as piece
 use Rattle.c_lexer.specs.declared.place.Place.{Place}

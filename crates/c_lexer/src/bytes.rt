@@ -1,7 +1,7 @@
 //! The bytes of which pieces are made, and how far they run.
-ghost use Rattle.std.specs.Prelude.{◌≡◌, ◌≤◌, ◌==◌, not, length, take};
+ghost use Rattle.std.specs.Prelude.{◌≡◌, ◌≤◌, ◌==◌, not, length, IfSome};
 ghost use Rattle.std.specs.List.{prefix_len};
-ghost use Rattle.c_lexer.specs.Pieces.{is_blank as is_blank_byte, is_digit as is_digit_byte, is_letter as is_letter_byte, is_word_byte as is_byte_of_word, past_close};
+ghost use Rattle.c_lexer.specs.Pieces.{is_blank as is_blank_byte, is_digit as is_digit_byte, is_letter as is_letter_byte, is_word_byte as is_byte_of_word, begins_with as text_begins_with, past_close};
 
 /// Whether the byte is a space, a tab, a carriage return or a line feed.
 pub(crate) fn is_blank(byte: u8) -> bool
@@ -35,9 +35,11 @@ pub(crate) fn word_len(text: &[u8]) -> usize
     ensures run { result ≡ prefix_len is_byte_of_word text.now }
     ensures within { result ≤ length text.now }
 {
-    text.iter()
-        .position(|byte| !is_word_byte(*byte))
-        .unwrap_or(text.len())
+    let mut len = 0;
+    while len < text.len() && is_word_byte(text[len]) {
+        len += 1;
+    }
+    len
 }
 
 /// How many digits the text begins with.
@@ -45,9 +47,11 @@ pub(crate) fn number_len(text: &[u8]) -> usize
     ensures run { result ≡ prefix_len is_digit_byte text.now }
     ensures within { result ≤ length text.now }
 {
-    text.iter()
-        .position(|byte| !is_digit(*byte))
-        .unwrap_or(text.len())
+    let mut len = 0;
+    while len < text.len() && is_digit(text[len]) {
+        len += 1;
+    }
+    len
 }
 
 /// How many bytes stand before the first line feed, or in all where there is none.
@@ -55,21 +59,36 @@ pub(crate) fn line_len(text: &[u8]) -> usize
     ensures run { result ≡ prefix_len (λ b. not (b == 10)) text.now }
     ensures within { result ≤ length text.now }
 {
-    text.iter()
-        .position(|byte| *byte == b'\n')
-        .unwrap_or(text.len())
+    let mut len = 0;
+    while len < text.len() && text[len] != b'\n' {
+        len += 1;
+    }
+    len
+}
+
+/// Whether the text begins with the byte.
+pub(crate) fn begins_with(byte: u8, text: &[u8]) -> bool
+    ensures { result ≡ text_begins_with byte text.now }
+{
+    match text {
+        [] => false,
+        [first, ..] => *first == byte,
+    }
 }
 
 /// How many bytes there are up to and with the first `*/`.
 pub(crate) fn close_len(text: &[u8]) -> Option<usize>
-    ensures { result ≡ past_close text.now }
+    ensures close { result ≡ past_close text.now }
+    ensures within { IfSome result (λ n. n ≤ length text.now) }
 {
+    let mut rest = text;
     let mut seen = 0;
-    while seen < text.len() {
-        if text[seen] == b'*' && text[seen + 1..].first() == Some(&b'/') {
+    while let [first, behind @ ..] = rest {
+        if *first == b'*' && begins_with(b'/', behind) {
             return Some(seen + 2);
         }
         seen += 1;
+        rest = behind;
     }
     None
 }

@@ -24,6 +24,9 @@ impl Place {
         requires line { self.line + length bytes.now < 2 ^ 64 }
         requires column { self.column + length bytes.now < 2 ^ 64 }
         ensures place { result ≡ place_behind bytes.now self }
+        ensures at { result.at ≡ self.at + length bytes.now }
+        ensures line { result.line ≤ self.line + length bytes.now }
+        ensures column { result.column ≤ self.column + length bytes.now }
     {
         let mut place = self;
         for byte in bytes {

@@ -1,0 +1,9 @@
+use Rattle.std.proofs.Common.{not, ◌==◌, ◌≡◌, ◌+◌, ◌-◌, ◌≤◌, length, drop}
+use Rattle.std.specs.List.{prefix_len}
+use Rattle.c_lexer.proofs.bytes.line_len.Given as goal
+
+abbrev pub invariant-loop-len : goal.invariant-loop-len
+invariant-loop-len l = record { within : l.len ≤ length l.text; run : prefix_len (λ b. not (b == 10)) l.text ≡ l.len + prefix_len (λ b. not (b == 10)) (drop l.len l.text) }
+
+abbrev pub decreases-loop-len : goal.decreases-loop-len
+decreases-loop-len l = length l.text - l.len
