@@ -1,5 +1,5 @@
 -- The tokens of a text, piece by piece.
-use Rattle.std.proofs.Common.{◌≡◌, ℕ, zero, suc, ◌+◌, ◌-◌, ◌<◌, ◌≤◌, List, [], ◌∷◌, ◌++◌, length, take, drop, Ok, Err, Result, arith, refl, sym, ap, ◌∙◌, append_assoc, subst, length-drop, length-take-le}
+use Rattle.std.proofs.Common.{◌≡◌, ℕ, zero, suc, ◌+◌, ◌-◌, ◌<◌, ◌≤◌, List, [], ◌∷◌, ◌++◌, length, take, drop, Ok, Err, Result, arith, refl, sym, ap, ◌∙◌, append_assoc, subst, length-drop, length-take-le, cond, true, false, ◌==◌}
 use Rattle.std.proofs.lemmas.List.{take_all, drop-drop}
 use Rattle.c_lexer.specs.declared.token.Token.{Token}
 use Rattle.c_lexer.specs.declared.piece.Piece.{Piece}
@@ -9,9 +9,13 @@ use Rattle.c_lexer.specs.declared.token.TokenKind.{TokenKind}
 use Rattle.c_lexer.specs.declared.piece.Meaning.TheVariants as meaning
 use Rattle.io_edge.specs.declared.kinds.InputKind.{InputKind}
 use Rattle.c_lexer.specs.declared.place.Place.{Place}
-use Rattle.c_lexer.specs.Pieces.{first_piece}
-use Rattle.c_lexer.specs.Places.{behind, behind_byte}
-use Rattle.c_lexer.specs.Tokens.{onto, with_piece, tokens_behind, tokens_of}
+use Rattle.c_lexer.specs.declared.piece.Meaning.{Meaning}
+use Rattle.c_lexer.specs.declared.token.TokenKind.TheVariants as kind
+use Rattle.std.specs.Prelude.{All}
+use Rattle.std.proofs.lemmas.List.Elements.{All-nil, All-cons, All-weaker}
+use Rattle.c_lexer.specs.Pieces.{first_piece, IsName}
+use Rattle.c_lexer.specs.Places.{behind, behind_byte, start}
+use Rattle.c_lexer.specs.Tokens.{onto, with_piece, tokens_behind, tokens_of, StandsIn}
 use Rattle.c_lexer.proofs.PieceLemmas.{first_piece_fits, text_piece_fits}
 
 -- bytes that belong to the last piece are passed over
@@ -109,3 +113,65 @@ pub same_refused : (bytes : List ℕ) (place : Place) (piece : Piece) (done : Li
     → tokens_of bytes ≡ before done (tokens_behind 0 place (drop place.at bytes)) → piece.meaning ≡ meaning.Refused kind → tokens_of bytes ≡ Err (At place.line place.column kind)
 same_refused bytes place piece done kind inside s same e =
     same ∙ ap (before done) (from_here bytes place piece inside s ∙ ap (λ k. with_piece k place piece.len (tokens_behind 0 (behind (take piece.len (drop place.at bytes)) place) (drop (place.at + piece.len) bytes))) e)
+
+-- ---- where the tokens of a text stand
+-- a token of a text that begins at a place
+record From (base : ℕ) (text : List ℕ) (token : Token) : Type 0 where
+  from : base ≤ token.start
+  some : token.start < token.end
+  within : token.end ≤ base + length text
+  named : token.kind ≡ kind.Name → IsName (take (token.end - token.start) (drop (token.start - base) text))
+
+from_behind : (base b : ℕ) (bs : List ℕ) (token : Token) → From (base + 1) bs token → From base (b ∷ bs) token
+from_behind base b bs token f =
+    let e : token.start - base ≡ suc (token.start - (base + 1)) = omega (arith, f.from) in
+    record { from = omega (arith, f.from); some = f.some; within = omega (arith, f.within); named = λ q. rw e (f.named q) }
+
+behind_at : (b : ℕ) (place : Place) → (behind_byte b place).at ≡ place.at + 1
+behind_at b place = elim (b == 10) as (λ t. (cond {A = Place} t (record { at = place.at + 1; line = place.line + 1; column = 1 }) (record { at = place.at + 1; line = place.line; column = place.column + 1 })).at ≡ place.at + 1) [ true ↦ refl | false ↦ refl ]
+
+ok_is : (xs ys : List Token) → (let a : Result (List Token) LexFault = Ok xs in a ≡ Ok ys) → xs ≡ ys
+ok_is xs ys e = cc
+
+onto_ok : (P : Token → Type 0) (token : Token) (later : Result (List Token) LexFault) → P token → ((ts : List Token) → later ≡ Ok ts → All P ts) → (ts : List Token) → onto token later ≡ Ok ts → All P ts
+onto_ok P token (Ok later) here there ts e = subst (All P) (ok_is _ _ e) (All-cons P token later here (there later refl))
+onto_ok P token (Err fault) here there ts e = absurd (cc)
+
+with_ok : (P : Token → Type 0) (m : Meaning) (place : Place) (n : ℕ) (later : Result (List Token) LexFault)
+    → ((k : TokenKind) → m ≡ meaning.Token k → P (record { kind = k; start = place.at; end = place.at + n; line = place.line }))
+    → ((ts : List Token) → later ≡ Ok ts → All P ts) → (ts : List Token) → with_piece m place n later ≡ Ok ts → All P ts
+with_ok P meaning.Skipped place n later here there ts e = there ts e
+with_ok P (meaning.Token k) place n later here there ts e = onto_ok P _ later (here k refl) there ts e
+with_ok P (meaning.Refused k) place n later here there ts e = absurd (cc)
+
+first_from : (place : Place) (b : ℕ) (bs : List ℕ) (k : TokenKind) → (first_piece (b ∷ bs)).meaning ≡ meaning.Token k
+    → From place.at (b ∷ bs) (record { kind = k; start = place.at; end = place.at + (first_piece (b ∷ bs)).len; line = place.line })
+first_from place b bs k e =
+    let f = first_piece_fits b bs in
+    let piece = first_piece (b ∷ bs) in
+    let n : place.at + piece.len - place.at ≡ piece.len = omega arith in
+    let z : place.at - place.at ≡ 0 = omega arith in
+    record {
+      from = omega arith;
+      some = omega (arith, f.some);
+      within = omega (arith, f.within);
+      named = λ q. rw (n, z) (f.named (e ∙ ap meaning.Token q));
+    }
+
+later_from : (place : Place) (b : ℕ) (bs : List ℕ) (ts : List Token) → All (From (behind_byte b place).at bs) ts → All (From place.at (b ∷ bs)) ts
+later_from place b bs ts all =
+    All-weaker (From (behind_byte b place).at bs) (From place.at (b ∷ bs)) (λ t f. from_behind place.at b bs t (subst (λ n. From n bs t) (behind_at b place) f)) ts all
+
+all_from : (left : ℕ) (place : Place) (text : List ℕ) (ts : List Token) → tokens_behind left place text ≡ Ok ts → All (From place.at text) ts
+all_from left place [] ts e = subst (All (From place.at [])) (ok_is [] ts e) (All-nil (From place.at []))
+all_from (suc left) place (b ∷ bs) ts e = later_from place b bs ts (all_from left (behind_byte b place) bs ts e)
+all_from zero place (b ∷ bs) ts e =
+    let piece = first_piece (b ∷ bs) in
+    with_ok (From place.at (b ∷ bs)) piece.meaning place piece.len (tokens_behind (piece.len - 1) (behind_byte b place) bs) (first_from place b bs)
+    (λ later q. later_from place b bs later (all_from (piece.len - 1) (behind_byte b place) bs later q)) ts e
+
+stands_in : (text : List ℕ) (token : Token) → From 0 text token → StandsIn text token
+stands_in text token f = let z : token.start - 0 ≡ token.start = omega arith in record { some = f.some; within = omega (arith, f.within); named = λ q. rw z at (f.named q) }
+
+pub tokens_stand_in : (text : List ℕ) (ts : List Token) → tokens_of text ≡ Ok ts → All (StandsIn text) ts
+tokens_stand_in text ts e = All-weaker (From 0 text) (StandsIn text) (stands_in text) ts (all_from 0 start text ts e)

@@ -1,5 +1,5 @@
 -- The pieces of a C text: blanks, comments and tokens, each as long as it can be.
-use Rattle.std.specs.Prelude.{ℕ, ◌+◌, Bool, false, not, ◌||◌, ◌&&◌, ◌==◌, nat_le, nat_lt, List, [], ◌∷◌, take, drop, codes, Option, Some, None, if◌then◌else◌}
+use Rattle.std.specs.Prelude.{◌≡◌, ◌≤◌, All, true, length, ℕ, ◌+◌, Bool, false, not, ◌||◌, ◌&&◌, ◌==◌, nat_le, nat_lt, List, [], ◌∷◌, take, drop, codes, Option, Some, None, if◌then◌else◌}
 use Rattle.std.specs.List.{prefix_len}
 use Rattle.std.specs.Option.{option_map}
 use Rattle.std.specs.Str.{bytes_eq}
@@ -60,6 +60,13 @@ word_kind w =
     else if bytes_eq w (codes "NULL") then k.Null
     else if bytes_eq w (codes "malloc") then k.Malloc
     else k.Name
+
+-- 1 to MOST_NAME_BYTES letters and digits that are no keyword
+pub record IsName (w : List ℕ) : Type 0 where
+  pub some : 1 ≤ length w
+  pub short : length w ≤ MOST_NAME_BYTES
+  pub bytes : All (λ b. is_word_byte b ≡ true) w
+  pub other : word_kind w ≡ k.Name
 
 -- the longest run of letters and digits from the front on
 abbrev pub word_piece : List ℕ → Piece

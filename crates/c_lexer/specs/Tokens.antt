@@ -1,12 +1,13 @@
 -- The tokens of a C text.
-use Rattle.std.specs.Prelude.{ℕ, zero, suc, ◌+◌, ◌-◌, List, [], ◌∷◌, Result, Ok, Err}
+use Rattle.std.specs.Prelude.{◌≡◌, ◌<◌, ◌≤◌, ℕ, zero, suc, ◌+◌, ◌-◌, List, [], ◌∷◌, length, take, drop, Result, Ok, Err}
 use Rattle.c_lexer.specs.declared.token.Token.{Token}
+use Rattle.c_lexer.specs.declared.token.TokenKind.TheVariants.{Name}
 use Rattle.c_lexer.specs.declared.fault.LexFault.{LexFault}
 use Rattle.c_lexer.specs.declared.fault.LexFault.TheVariants.{At}
 use Rattle.c_lexer.specs.declared.piece.Meaning.{Meaning}
 use Rattle.c_lexer.specs.declared.piece.Meaning.TheVariants as piece
 use Rattle.c_lexer.specs.declared.place.Place.{Place}
-use Rattle.c_lexer.specs.Pieces.{first_piece}
+use Rattle.c_lexer.specs.Pieces.{first_piece, IsName}
 use Rattle.c_lexer.specs.Places.{start, behind_byte}
 
 -- a token, and those behind it
@@ -31,3 +32,9 @@ tokens_behind zero place (b ∷ bs) =
 -- the tokens of a text, or its first piece that is no blank, no comment and no token
 abbrev pub tokens_of : List ℕ → Result (List Token) LexFault
 tokens_of text = tokens_behind 0 start text
+
+-- The token has bytes of the text, and a name's are a name.
+pub record StandsIn (text : List ℕ) (token : Token) : Type 0 where
+  pub some : token.start < token.end
+  pub within : token.end ≤ length text
+  pub named : token.kind ≡ Name → IsName (take (token.end - token.start) (drop token.start text))
