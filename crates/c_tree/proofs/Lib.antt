@@ -1,0 +1,5 @@
+pub mod Parts
+pub mod Places
+pub mod Layers
+pub mod Choices
+pub mod Handed
