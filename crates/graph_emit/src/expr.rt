@@ -1,0 +1,180 @@
+//! The walk of expressions.
+use crate::emitter::{Emitter, Value, plain, refusal};
+use crate::fault::{EmitFault, EmitKind};
+use crate::functions::{Bound, Functions};
+use c_tree::{Call, Compared, Expr, Name, Place, Pointer, Sum, Tok, Unary};
+use emit_list::{EmitLabel, VertexForm};
+use io_edge::InputKind;
+
+/// What a walk is made with: the kind of graph, and where the call of a name goes.
+#[derive(Clone, Copy)]
+pub(crate) struct Setting<'a, 'p> {
+    pub(crate) kind: EmitKind,
+    pub(crate) functions: &'a Functions<'p>,
+}
+
+/// What a function gives flows to a new vertex.
+fn given<'p>(emitter: &mut Emitter<'p>, name: &'p Name, result: Option<u32>) -> Result<Option<u32>, EmitFault> {
+    let Some(r) = result else {
+        return Ok(None);
+    };
+    let t = emitter.fresh(name.tok, VertexForm::Call, name.bytes.as_slice())?;
+    emitter.join(r, EmitLabel::A, t)?;
+    Ok(Some(t))
+}
+
+/// Each argument in order flows to its parameter.
+#[cycle(expr)]
+fn args_flow<'p>(
+    set: &Setting<'_, 'p>,
+    emitter: &mut Emitter<'p>,
+    args: &'p [Expr],
+    params: &[Bound<'p>],
+) -> Result<(), EmitFault> {
+    for (arg, param) in args.iter().zip(params.iter()) {
+        let value = walk_expr(set, emitter, arg)?;
+        emitter.flow(set.kind, value, param.vertex)?;
+    }
+    Ok(())
+}
+
+/// A call; it answers its vertex, if it has one.
+#[cycle(expr)]
+pub(crate) fn walk_call<'p>(
+    set: &Setting<'_, 'p>,
+    emitter: &mut Emitter<'p>,
+    call: &'p Call,
+) -> Result<Option<u32>, EmitFault> {
+    match call {
+        Call::Function { name, args } => {
+            let target = set.functions.goes(name)?;
+            if args.len() != target.params.len() {
+                return Err(refusal(name.tok, InputKind::WrongArguments));
+            }
+            args_flow(set, emitter, args.as_slice(), target.params.as_slice())?;
+            given(emitter, name, target.result)
+        }
+        Call::Malloc { tok, size } => {
+            walk_expr(set, emitter, size.get())?;
+            let t = emitter.fresh(*tok, VertexForm::Malloc, b"")?;
+            Ok(Some(t))
+        }
+    }
+}
+
+/// The token of a call's name.
+fn call_tok(call: &Call) -> Tok {
+    match call {
+        Call::Function { name, args: _ } => name.tok,
+        Call::Malloc { tok, size: _ } => *tok,
+    }
+}
+
+/// The vertex of a call that is used as an expression.
+#[cycle(expr)]
+fn value_of_call<'p>(set: &Setting<'_, 'p>, emitter: &mut Emitter<'p>, call: &'p Call) -> Result<u32, EmitFault> {
+    match walk_call(set, emitter, call)? {
+        Some(t) => Ok(t),
+        None => Err(refusal(call_tok(call), InputKind::NoValue)),
+    }
+}
+
+/// A place; it answers its vertex.
+#[cycle(expr)]
+pub(crate) fn walk_place<'p>(
+    set: &Setting<'_, 'p>,
+    emitter: &mut Emitter<'p>,
+    place: &'p Place,
+) -> Result<u32, EmitFault> {
+    match place {
+        Place::Name(name) => emitter.variable(name),
+        Place::Star { tok, pointer } => {
+            let v = walk_pointer(set, emitter, pointer.get())?;
+            emitter.pointed_to(*tok, v)
+        }
+    }
+}
+
+#[cycle(expr)]
+fn walk_pointer<'p>(set: &Setting<'_, 'p>, emitter: &mut Emitter<'p>, pointer: &'p Pointer) -> Result<u32, EmitFault> {
+    match pointer {
+        Pointer::Name(name) => emitter.variable(name),
+        Pointer::Star { tok, pointer } => {
+            let v = walk_pointer(set, emitter, pointer.get())?;
+            emitter.pointed_to(*tok, v)
+        }
+        Pointer::Call(call) => value_of_call(set, emitter, call),
+        Pointer::Paren(e) => {
+            let value = walk_expr(set, emitter, e.get())?;
+            Ok(value.vertex)
+        }
+    }
+}
+
+#[cycle(expr)]
+fn walk_unary<'p>(set: &Setting<'_, 'p>, emitter: &mut Emitter<'p>, unary: &'p Unary) -> Result<Value, EmitFault> {
+    match unary {
+        Unary::Place(place) => {
+            let v = walk_place(set, emitter, place)?;
+            Ok(plain(v))
+        }
+        Unary::Address { tok, place } => {
+            let v = walk_place(set, emitter, place)?;
+            let t = emitter.addressed(*tok, v)?;
+            Ok(plain(t))
+        }
+        Unary::Call(call) => {
+            let t = value_of_call(set, emitter, call)?;
+            Ok(plain(t))
+        }
+        Unary::Number(tok) => {
+            let t = emitter.fresh(*tok, VertexForm::Number, b"")?;
+            Ok(plain(t))
+        }
+        Unary::Null(tok) => {
+            let t = emitter.fresh(*tok, VertexForm::Null, b"")?;
+            Ok(Value {
+                vertex: t,
+                is_null: true,
+            })
+        }
+        Unary::Paren(e) => walk_expr(set, emitter, e.get()),
+    }
+}
+
+/// Operands from left to right.
+#[cycle(expr)]
+fn walk_sum<'p>(set: &Setting<'_, 'p>, emitter: &mut Emitter<'p>, sum: &'p Sum) -> Result<Value, EmitFault> {
+    let mut value = walk_unary(set, emitter, &sum.first)?;
+    for added in sum.rest.as_slice() {
+        walk_unary(set, emitter, &added.unary)?;
+        let t = emitter.fresh(added.tok, VertexForm::Op, b"")?;
+        value = plain(t);
+    }
+    Ok(value)
+}
+
+#[cycle(expr)]
+fn walk_compared<'p>(
+    set: &Setting<'_, 'p>,
+    emitter: &mut Emitter<'p>,
+    compared: &'p Compared,
+) -> Result<Value, EmitFault> {
+    walk_sum(set, emitter, &compared.sum)?;
+    let t = emitter.fresh(compared.tok, VertexForm::Op, b"")?;
+    Ok(plain(t))
+}
+
+/// An expression; it answers its value.
+#[cycle(expr)]
+pub(crate) fn walk_expr<'p>(
+    set: &Setting<'_, 'p>,
+    emitter: &mut Emitter<'p>,
+    e: &'p Expr,
+) -> Result<Value, EmitFault> {
+    let value = walk_sum(set, emitter, &e.left)?;
+    match &e.right {
+        None => Ok(value),
+        Some(compared) => walk_compared(set, emitter, compared),
+    }
+}

@@ -1,0 +1,131 @@
+//! The walk of declarations, statements and functions.
+use crate::emitter::{Emitter, refusal};
+use crate::expr::{Setting, walk_call, walk_expr, walk_place};
+use crate::fault::EmitFault;
+use crate::functions::{Bound, Target};
+use c_tree::{Expr, Stmt, Tok, Var};
+use io_edge::InputKind;
+
+/// Variables in order: each is made, and then its initial value flows to it.
+pub(crate) fn walk_vars<'p>(
+    set: &Setting<'_, 'p>,
+    emitter: &mut Emitter<'p>,
+    vars: &'p [Var],
+) -> Result<(), EmitFault> {
+    for var in vars {
+        let t = emitter.declare(&var.name)?;
+        if let Some(e) = &var.value {
+            let value = walk_expr(set, emitter, e)?;
+            emitter.flow(set.kind, value, t)?;
+        }
+    }
+    Ok(())
+}
+
+/// `return`, in a function that gives this vertex, if it gives anything.
+fn walk_return<'p>(
+    set: &Setting<'_, 'p>,
+    emitter: &mut Emitter<'p>,
+    tok: Tok,
+    result: Option<u32>,
+    value: &'p Option<Expr>,
+) -> Result<(), EmitFault> {
+    let Some(e) = value else {
+        return Ok(());
+    };
+    let Some(r) = result else {
+        return Err(refusal(tok, InputKind::NoValue));
+    };
+    let value = walk_expr(set, emitter, e)?;
+    emitter.flow(set.kind, value, r)
+}
+
+/// Statements in order.
+#[cycle(stmt)]
+fn walk_stmts<'p>(
+    set: &Setting<'_, 'p>,
+    emitter: &mut Emitter<'p>,
+    result: Option<u32>,
+    stmts: &'p [Stmt],
+) -> Result<(), EmitFault> {
+    for stmt in stmts {
+        walk_stmt(set, emitter, result, stmt)?;
+    }
+    Ok(())
+}
+
+/// A block, in a scope of its own.
+#[cycle(stmt)]
+fn walk_block<'p>(
+    set: &Setting<'_, 'p>,
+    emitter: &mut Emitter<'p>,
+    result: Option<u32>,
+    stmts: &'p [Stmt],
+) -> Result<(), EmitFault> {
+    let around = emitter.names.open();
+    walk_stmts(set, emitter, result, stmts)?;
+    emitter.names.close(around);
+    Ok(())
+}
+
+#[cycle(stmt)]
+fn walk_stmt<'p>(
+    set: &Setting<'_, 'p>,
+    emitter: &mut Emitter<'p>,
+    result: Option<u32>,
+    stmt: &'p Stmt,
+) -> Result<(), EmitFault> {
+    match stmt {
+        Stmt::Declared(d) => walk_vars(set, emitter, d.vars.as_slice()),
+        Stmt::Assign { place, value } => {
+            let t = walk_place(set, emitter, place)?;
+            let value = walk_expr(set, emitter, value)?;
+            emitter.flow(set.kind, value, t)
+        }
+        Stmt::Call(call) => {
+            walk_call(set, emitter, call)?;
+            Ok(())
+        }
+        Stmt::Block(stmts) => walk_block(set, emitter, result, stmts.as_slice()),
+        Stmt::Empty => Ok(()),
+        Stmt::If {
+            condition,
+            body,
+            other,
+        } => {
+            walk_expr(set, emitter, condition)?;
+            walk_stmt(set, emitter, result, body.get())?;
+            match other {
+                None => Ok(()),
+                Some(other) => walk_stmt(set, emitter, result, other.get()),
+            }
+        }
+        Stmt::While { condition, body } => {
+            walk_expr(set, emitter, condition)?;
+            walk_stmt(set, emitter, result, body.get())
+        }
+        Stmt::Return { tok, value } => walk_return(set, emitter, *tok, result, value),
+    }
+}
+
+/// The names of parameters.
+fn bind_params<'p>(emitter: &mut Emitter<'p>, params: &[Bound<'p>]) -> Result<(), EmitFault> {
+    for param in params {
+        emitter.names.bind(param.name, param.vertex)?;
+    }
+    Ok(())
+}
+
+/// The body of a function, in the scope of its parameters.
+pub(crate) fn walk_body<'p>(
+    set: &Setting<'_, 'p>,
+    emitter: &mut Emitter<'p>,
+    body: &'p [Stmt],
+    target: &Target<'p>,
+) -> Result<(), EmitFault> {
+    let around = emitter.names.open();
+    bind_params(emitter, target.params.as_slice())?;
+    walk_stmts(set, emitter, target.result, body)?;
+    emitter.names.close(around);
+    Ok(())
+}
