@@ -1,8 +1,10 @@
 -- A text that is printed piece by piece.
-use Rattle.std.proofs.Common.{◌≡◌, ℕ, zero, suc, ◌+◌, ◌-◌, ◌<◌, ◌≤◌, List, [], ◌∷◌, ◌++◌, length, take, Option, Some, None, Result, Err, arith, refl, sym, ap, ◌∙◌, subst, append_assoc, append-nil}
+use Rattle.std.proofs.Common.{◌≡◌, ℕ, suc, ◌+◌, ◌-◌, ◌<◌, List, [], ◌++◌, length, drop, get_or, add-one, drop-cons, Option, Result, Err, arith, refl, sym, ◌∙◌, subst, append_assoc, append-nil}
 use Rattle.std.specs.List.{flat_map, range_with_len}
 use Rattle.std.specs.Io.KnownBytes.{Appends}
 use Rattle.std.proofs.KnownBytes.{Appends-nil, Appends-trans}
+use Rattle.emit_list.specs.declared.edge.EmitEdge.{EmitEdge}
+use Rattle.emit_list.specs.Printed.{edge_line_of}
 use Rattle.io_edge.specs.Devices.{AppendsPrefix, Takes}
 use Rattle.io_edge.proofs.DeviceLemmas.{AppendsPrefix-more, takes_more}
 
@@ -29,3 +31,21 @@ prints_fails a b c whole piece rest p q =
 -- numbers from k up to n: the first, and the others
 pub range_first : (f : ℕ → List ℕ) (k n : ℕ) → k < n → flat_map f (range_with_len k (n - k)) ≡ f k ++ flat_map f (range_with_len (k + 1) (n - (k + 1)))
 range_first f k n h = let e : n - k ≡ suc (n - (k + 1)) = omega arith in rw e
+
+-- the last piece
+pub prints_takes : {T E : Type 0} (a b c : Option (List ℕ)) (r : Result T E) (whole piece : List ℕ) → PrintsOn a b whole piece → Takes b c r piece → Takes a c r whole
+prints_takes {T} {E} a b c r whole piece p q = subst (λ (l : List ℕ). Takes {T = T} {E = E} a c r l) (sym p.same) (takes_more a b c r p.front piece p.taken q)
+
+-- the edges from one on: the first, and the others
+edge_first : (es : List EmitEdge) (i : ℕ) (d : EmitEdge) → i < length es → flat_map edge_line_of (drop i es) ≡ edge_line_of (get_or es i d) ++ flat_map edge_line_of (drop (i + 1) es)
+edge_first es i d h = rw (add-one, drop-cons es i d)
+
+module _ (a b c : Option (List ℕ)) (whole : List ℕ) (es : List EmitEdge) (i : ℕ) (d : EmitEdge) (h : i < length es) (p : PrintsOn a b whole (flat_map edge_line_of (drop i es))) where
+  here : PrintsOn a b whole (edge_line_of (get_or es i d) ++ flat_map edge_line_of (drop (i + 1) es))
+  here = subst (PrintsOn a b whole) (edge_first es i d h) p
+
+  pub edge_taken : Appends b c (edge_line_of (get_or es i d)) → PrintsOn a c whole (flat_map edge_line_of (drop (i + 1) es))
+  edge_taken q = prints_step a b c whole (edge_line_of (get_or es i d)) (flat_map edge_line_of (drop (i + 1) es)) here q
+
+  pub edge_fails : AppendsPrefix b c (edge_line_of (get_or es i d)) → AppendsPrefix a c whole
+  edge_fails q = prints_fails a b c whole (edge_line_of (get_or es i d)) (flat_map edge_line_of (drop (i + 1) es)) here q

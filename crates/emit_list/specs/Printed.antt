@@ -1,5 +1,5 @@
 -- The text of a list: a line for each vertex, and then a line for each edge.
-use Rattle.std.specs.Prelude.{ℕ, ◌+◌, List, [], ◌∷◌, ◌++◌, length, codes, decimal, slice_index_or}
+use Rattle.std.specs.Prelude.{ℕ, List, [], ◌∷◌, ◌++◌, length, codes, decimal, slice_index_or}
 use Rattle.std.specs.List.{flat_map, range_with_len}
 use Rattle.edge_text.specs.Print.{edge_bytes}
 use Rattle.emit_list.specs.declared.vertex.VertexForm.{VertexForm}

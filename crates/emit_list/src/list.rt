@@ -1,7 +1,7 @@
 //! A list of vertices and edges.
 ghost use Rattle.std.specs.Prelude.{◌≡◌, ◌<◌, ◌≤◌, ◌++◌, ◌∷◌, [], length, IfOk, OnOk, OnErr, slice_get, Some, Option};
 ghost use Rattle.std.specs.Option.{option_map};
-ghost use Rattle.emit_list.specs.Vertices.{Listed, IsBelow, IsEdgeBelow};
+ghost use Rattle.emit_list.specs.Vertices.{IsListed, IsBelow, IsEdgeBelow};
 
 use crate::edge::EmitEdge;
 use crate::vertex::{Vertex, VertexForm};
@@ -49,7 +49,8 @@ impl EmitList {
 
     /// The edges, in the order in which they were made.
     pub fn edges(&self) -> &[EmitEdge]
-        ensures { result.now ≡ self.now.edges }
+        ensures edges { result.now ≡ self.now.edges }
+        ensures listed { IsListed self.now.vertices self.now.edges }
     {
         self.edges.as_slice()
     }
@@ -74,7 +75,12 @@ impl EmitList {
     /// Adds a vertex, and answers its number. `name` is the name of its variable or function, and empty for other forms.
     ///
     /// A refusal changes nothing.
-    pub fn add_vertex(&mut self, alloc: Global, form: VertexForm, name: &[u8]) -> Result<u32, AllocError>
+    pub fn add_vertex(
+        &mut self,
+        alloc: Global,
+        form: VertexForm,
+        name: &[u8],
+    ) -> Result<u32, AllocError>
         requires room { length self.old.vertices < 16777216 }
         requires there { IsBelow (length self.old.vertices) form }
         ensures number { IfOk result (λ k. k ≡ length self.old.vertices) }

@@ -1,4 +1,4 @@
-use Rattle.std.proofs.Common.{◌≡◌, ◌+◌, ◌<◌, ◌≤◌, length, ℕ, Option, Some}
+use Rattle.std.proofs.Common.{◌≡◌, ◌+◌, ◌<◌, ◌≤◌, length, ℕ, Some}
 use Rattle.std.specs.Option.{option_map_or}
 use Rattle.emit_list.specs.Printed.{text_of}
 use Rattle.emit_list.proofs.TextLemmas.{text_from}
