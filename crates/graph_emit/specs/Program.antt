@@ -47,7 +47,7 @@ return_made f =
 abbrev pub function_made : List Known → Function → Walk (List Known)
 function_made before f =
     if is_some (known_as f.name.bytes before) then refuse f.name.tok input.Repeated
-    else (params_made [] f.params ⟫ λ params. return_made f ⟫ λ result. done (before ++ record { name = f.name.bytes; target = record { params = params; result = result } } ∷ []))
+    else (params_made [] f.params ⟫ λ params. return_made f ⟫ λ gives. done (before ++ record { name = f.name.bytes; target = record { params = params; gives = gives } } ∷ []))
 
 abbrev pub functions_made : List Known → List Item → Walk (List Known)
 functions_made before [] = done before

@@ -162,7 +162,7 @@ scoped names w s = closed s (w (record { vertices = s.vertices; edges = s.edges;
 -- where a call goes: the parameters with their vertices, and the vertex of what the function gives, if it gives anything
 pub record Target : Type 0 where
   pub params : List Bound
-  pub result : Option ℕ
+  pub gives : Option ℕ
 
 -- what a walk is made with: the kind of graph, and where the call of a name goes
 pub record Setting : Type 0 where

@@ -45,7 +45,7 @@ given name (Some r) = fresh name.tok form.Call name.bytes ⟫ λ t. join r label
 
 abbrev pub goes_to : Setting → Name → List (Walk Value) → Target → Walk (Option ℕ)
 goes_to set name args target =
-    if length args == length target.params then (args_flow set.kind args target.params ⟫ λ _. given name target.result)
+    if length args == length target.params then (args_flow set.kind args target.params ⟫ λ _. given name target.gives)
     else refuse name.tok input.WrongArguments
 
 -- the vertex of a call that is used as an expression
@@ -146,23 +146,23 @@ other_walk None = done tt
 other_walk (Some other) = other
 
 abbrev pub returned : Setting → Tok → Option ℕ → Option Expr → Walk (Unit {0})
-returned set tok result None = done tt
+returned set tok gives None = done tt
 returned set tok None (Some e) = refuse tok input.NoValue
 returned set tok (Some r) (Some e) = expr_walk set e ⟫ λ value. flow set.kind value r
 
 abbrev pub stmt_step : Setting → Option ℕ → Stmt-F (Walk (Unit {0})) → Walk (Unit {0})
-stmt_step set result (s.Declared d) = vars_walk set d.vars
-stmt_step set result (s.Assign place value) = place_walk set place ⟫ λ t. expr_walk set value ⟫ λ v. flow set.kind v t
-stmt_step set result (s.Call call) = (call_walk set call).walk ⟫ λ _. done tt
-stmt_step set result (s.Block stmts) = scoped [] (in_order stmts)
-stmt_step set result s.Empty = done tt
-stmt_step set result (s.If condition body other) = expr_walk set condition ⟫ λ _. body ⟫ λ _. other_walk other
-stmt_step set result (s.While condition body) = expr_walk set condition ⟫ λ _. body
-stmt_step set result (s.Return tok value) = returned set tok result value
+stmt_step set gives (s.Declared d) = vars_walk set d.vars
+stmt_step set gives (s.Assign place value) = place_walk set place ⟫ λ t. expr_walk set value ⟫ λ v. flow set.kind v t
+stmt_step set gives (s.Call call) = (call_walk set call).walk ⟫ λ _. done tt
+stmt_step set gives (s.Block stmts) = scoped [] (in_order stmts)
+stmt_step set gives s.Empty = done tt
+stmt_step set gives (s.If condition body other) = expr_walk set condition ⟫ λ _. body ⟫ λ _. other_walk other
+stmt_step set gives (s.While condition body) = expr_walk set condition ⟫ λ _. body
+stmt_step set gives (s.Return tok value) = returned set tok gives value
 
 abbrev pub stmt_walk : Setting → Option ℕ → Stmt → Walk (Unit {0})
-stmt_walk set result = fold-Stmt (Walk (Unit {0})) (stmt_step set result)
+stmt_walk set gives = fold-Stmt (Walk (Unit {0})) (stmt_step set gives)
 
 -- a body, in the scope of the parameters
 abbrev pub body_walk : Setting → List Stmt → Target → Walk (Unit {0})
-body_walk set body target = scoped (reverse target.params) (in_order (map (stmt_walk set target.result) body))
+body_walk set body target = scoped (reverse target.params) (in_order (map (stmt_walk set target.gives) body))

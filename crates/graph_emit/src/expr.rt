@@ -14,8 +14,8 @@ pub(crate) struct Setting<'a, 'p> {
 }
 
 /// What a function gives flows to a new vertex.
-fn given<'p>(emitter: &mut Emitter<'p>, name: &'p Name, result: Option<u32>) -> Result<Option<u32>, EmitFault> {
-    let Some(r) = result else {
+fn given<'p>(emitter: &mut Emitter<'p>, name: &'p Name, gives: Option<u32>) -> Result<Option<u32>, EmitFault> {
+    let Some(r) = gives else {
         return Ok(None);
     };
     let t = emitter.fresh(name.tok, VertexForm::Call, name.bytes.as_slice())?;
@@ -52,7 +52,7 @@ pub(crate) fn walk_call<'p>(
                 return Err(refusal(name.tok, InputKind::WrongArguments));
             }
             args_flow(set, emitter, args.as_slice(), target.params.as_slice())?;
-            given(emitter, name, target.result)
+            given(emitter, name, target.gives)
         }
         Call::Malloc { tok, size } => {
             walk_expr(set, emitter, size.get())?;

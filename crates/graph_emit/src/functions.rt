@@ -20,7 +20,7 @@ pub(crate) struct Bound<'p> {
 #[derive(Drop)]
 pub(crate) struct Target<'p> {
     pub(crate) params: Vec<Bound<'p>>,
-    pub(crate) result: Option<u32>,
+    pub(crate) gives: Option<u32>,
 }
 
 /// The functions by their names.
@@ -96,13 +96,13 @@ fn target_made<'p>(alloc: Global, emitter: &mut Emitter<'p>, f: &'p Function) ->
     if gives_nothing(f.base, f.stars) {
         return Ok(Target {
             params,
-            result: None,
+            gives: None,
         });
     }
-    let result = emitter.fresh(f.name.tok, VertexForm::Return, f.name.bytes.as_slice())?;
+    let gives = emitter.fresh(f.name.tok, VertexForm::Return, f.name.bytes.as_slice())?;
     Ok(Target {
         params,
-        result: Some(result),
+        gives: Some(gives),
     })
 }
 

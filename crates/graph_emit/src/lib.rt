@@ -11,3 +11,6 @@ mod stmt;
 pub use emit::emit;
 pub use emit_list::{EmitEdge, EmitLabel, EmitList, VertexForm, print_edges};
 pub use fault::{EmitFault, EmitKind};
+
+#[cfg(test)]
+mod tests;

@@ -27,13 +27,13 @@ fn walk_return<'p>(
     set: &Setting<'_, 'p>,
     emitter: &mut Emitter<'p>,
     tok: Tok,
-    result: Option<u32>,
+    gives: Option<u32>,
     value: &'p Option<Expr>,
 ) -> Result<(), EmitFault> {
     let Some(e) = value else {
         return Ok(());
     };
-    let Some(r) = result else {
+    let Some(r) = gives else {
         return Err(refusal(tok, InputKind::NoValue));
     };
     let value = walk_expr(set, emitter, e)?;
@@ -45,11 +45,11 @@ fn walk_return<'p>(
 fn walk_stmts<'p>(
     set: &Setting<'_, 'p>,
     emitter: &mut Emitter<'p>,
-    result: Option<u32>,
+    gives: Option<u32>,
     stmts: &'p [Stmt],
 ) -> Result<(), EmitFault> {
     for stmt in stmts {
-        walk_stmt(set, emitter, result, stmt)?;
+        walk_stmt(set, emitter, gives, stmt)?;
     }
     Ok(())
 }
@@ -59,11 +59,11 @@ fn walk_stmts<'p>(
 fn walk_block<'p>(
     set: &Setting<'_, 'p>,
     emitter: &mut Emitter<'p>,
-    result: Option<u32>,
+    gives: Option<u32>,
     stmts: &'p [Stmt],
 ) -> Result<(), EmitFault> {
     let around = emitter.names.open();
-    walk_stmts(set, emitter, result, stmts)?;
+    walk_stmts(set, emitter, gives, stmts)?;
     emitter.names.close(around);
     Ok(())
 }
@@ -72,7 +72,7 @@ fn walk_block<'p>(
 fn walk_stmt<'p>(
     set: &Setting<'_, 'p>,
     emitter: &mut Emitter<'p>,
-    result: Option<u32>,
+    gives: Option<u32>,
     stmt: &'p Stmt,
 ) -> Result<(), EmitFault> {
     match stmt {
@@ -86,7 +86,7 @@ fn walk_stmt<'p>(
             walk_call(set, emitter, call)?;
             Ok(())
         }
-        Stmt::Block(stmts) => walk_block(set, emitter, result, stmts.as_slice()),
+        Stmt::Block(stmts) => walk_block(set, emitter, gives, stmts.as_slice()),
         Stmt::Empty => Ok(()),
         Stmt::If {
             condition,
@@ -94,17 +94,17 @@ fn walk_stmt<'p>(
             other,
         } => {
             walk_expr(set, emitter, condition)?;
-            walk_stmt(set, emitter, result, body.get())?;
+            walk_stmt(set, emitter, gives, body.get())?;
             match other {
                 None => Ok(()),
-                Some(other) => walk_stmt(set, emitter, result, other.get()),
+                Some(other) => walk_stmt(set, emitter, gives, other.get()),
             }
         }
         Stmt::While { condition, body } => {
             walk_expr(set, emitter, condition)?;
-            walk_stmt(set, emitter, result, body.get())
+            walk_stmt(set, emitter, gives, body.get())
         }
-        Stmt::Return { tok, value } => walk_return(set, emitter, *tok, result, value),
+        Stmt::Return { tok, value } => walk_return(set, emitter, *tok, gives, value),
     }
 }
 
@@ -125,7 +125,7 @@ pub(crate) fn walk_body<'p>(
 ) -> Result<(), EmitFault> {
     let around = emitter.names.open();
     bind_params(emitter, target.params.as_slice())?;
-    walk_stmts(set, emitter, target.result, body)?;
+    walk_stmts(set, emitter, target.gives, body)?;
     emitter.names.close(around);
     Ok(())
 }
