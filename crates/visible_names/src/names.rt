@@ -70,7 +70,7 @@ impl<'p> VisibleNames<'p> {
         }
     }
 
-    /// Adds a name to the innermost scope. After a refusal the names must not be used.
+    /// Adds a name to the innermost scope. A refusal changes nothing.
     pub fn bind(&mut self, name: &'p [u8], vertex: u32) -> Result<(), AllocError>
         ensures bound { OnOk result (self.new ≡ record { inner = record { name = name.now; vertex = vertex } ∷ self.old.inner; outer = self.old.outer }) }
         ensures err { OnErr result (self.new ≡ self.old) }
@@ -78,7 +78,11 @@ impl<'p> VisibleNames<'p> {
         let before = self.latest.get(name).copied();
         self.entries.reserve(1)?;
         self.latest.insert(name, self.entries.len())?;
-        self.entries.push(Entry { name, vertex, before })?;
+        self.entries.push(Entry {
+            name,
+            vertex,
+            before,
+        })?;
         Ok(())
     }
 
