@@ -1,5 +1,5 @@
 -- The graph of a program.
-use Rattle.std.specs.Prelude.{◌≡◌, ℕ, zero, suc, Bool, true, false, is_some, List, [], ◌∷◌, ◌++◌, map, find, Option, Some, None, Result, Ok, Err, if◌then◌else◌}
+use Rattle.std.specs.Prelude.{◌≡◌, ℕ, zero, suc, Bool, true, false, is_some, List, [], ◌∷◌, ◌++◌, map, reverse, find, Option, Some, None, Result, Ok, Err, if◌then◌else◌}
 use Rattle.std.specs.Option.{option_map}
 use Rattle.std.specs.Str.{bytes_eq}
 use Rattle.io_edge.specs.declared.kinds.InputKind.TheVariants as input
@@ -14,9 +14,10 @@ use Rattle.c_tree.specs.declared.tree.Program.{Program}
 use Rattle.emit_list.specs.declared.vertex.VertexForm.TheVariants as form
 use Rattle.emit_list.specs.declared.vertex.Vertex.{Vertex}
 use Rattle.emit_list.specs.Vertices.{Listed}
+use Rattle.visible_names.specs.Names.{Bound, bound_to}
 use Rattle.graph_emit.specs.declared.fault.EmitKind.{EmitKind}
 use Rattle.graph_emit.specs.declared.fault.EmitFault.{EmitFault}
-use Rattle.graph_emit.specs.State.{Made, Bound, State, Walk, done, and_then, ◌⟫◌, refuse, fresh, bound_to, Target, Setting}
+use Rattle.graph_emit.specs.State.{Made, State, Walk, done, and_then, ◌⟫◌, refuse, fresh, Target, Setting}
 use Rattle.graph_emit.specs.Walk.{vars_walk, body_walk}
 
 -- ---- first the functions: vertices for their parameters, and for what they give
@@ -28,11 +29,12 @@ pub record Known : Type 0 where
 abbrev pub known_as : List ℕ → List Known → Option Target
 known_as name known = option_map (λ (f : Known). f.target) (find (λ (f : Known). bytes_eq f.name name) known)
 
+-- the parameters, with those before them, the last one first
 abbrev pub params_made : List Bound → List Param → Walk (List Bound)
-params_made before [] = done before
+params_made before [] = done (reverse before)
 params_made before (p ∷ ps) =
     if is_some (bound_to p.name.bytes before) then refuse p.name.tok input.Repeated
-    else (fresh p.name.tok form.Variable p.name.bytes ⟫ λ t. params_made (before ++ record { name = p.name.bytes; vertex = t } ∷ []) ps)
+    else (fresh p.name.tok form.Variable p.name.bytes ⟫ λ t. params_made (record { name = p.name.bytes; vertex = t } ∷ before) ps)
 
 -- `void` without a star
 abbrev pub gives_nothing : Base → ℕ → Bool
@@ -44,10 +46,14 @@ return_made f =
     if gives_nothing f.base f.stars then done None
     else (fresh f.name.tok form.Return f.name.bytes ⟫ λ t. done (Some t))
 
+abbrev pub target_made : Function → Walk Target
+target_made f = params_made [] f.params ⟫ λ params. return_made f ⟫ λ gives. done (record { params = params; gives = gives })
+
+-- the functions with one more, the last one first
 abbrev pub function_made : List Known → Function → Walk (List Known)
 function_made before f =
     if is_some (known_as f.name.bytes before) then refuse f.name.tok input.Repeated
-    else (params_made [] f.params ⟫ λ params. return_made f ⟫ λ gives. done (before ++ record { name = f.name.bytes; target = record { params = params; gives = gives } } ∷ []))
+    else (target_made f ⟫ λ target. done (record { name = f.name.bytes; target = target } ∷ before))
 
 abbrev pub functions_made : List Known → List Item → Walk (List Known)
 functions_made before [] = done before

@@ -1,7 +1,6 @@
 -- The graph of a program while it is made, and the steps that make it.
-use Rattle.std.specs.Prelude.{◌≡◌, ℕ, ◌==◌, Bool, false, nat_lt, is_some, List, [], ◌∷◌, ◌++◌, length, slice_get, position, find, Option, Some, None, Result, Ok, Err, if◌then◌else◌}
+use Rattle.std.specs.Prelude.{◌≡◌, ℕ, ◌+◌, ◌==◌, Bool, false, nat_lt, is_some, List, [], ◌∷◌, ◌++◌, length, slice_get, Option, Some, None, Result, Ok, Err, if◌then◌else◌}
 use Rattle.std.specs.Option.{option_map}
-use Rattle.std.specs.Str.{bytes_eq}
 use Rattle.io_edge.specs.declared.kinds.InputKind.{InputKind}
 use Rattle.io_edge.specs.declared.kinds.InputKind.TheVariants as input
 use Rattle.c_tree.specs.declared.tree.Tok.{Tok}
@@ -13,8 +12,10 @@ use Rattle.emit_list.specs.declared.edge.EmitEdge.{EmitEdge}
 use Rattle.emit_list.specs.declared.edge.EmitLabel.{EmitLabel}
 use Rattle.emit_list.specs.declared.edge.EmitLabel.TheVariants as label
 use Rattle.emit_list.specs.Vertices.{edge, inverse}
+use Rattle.visible_names.specs.Names.{Bound, bound_to}
 use Rattle.graph_emit.specs.declared.fault.EmitFault.{EmitFault}
 use Rattle.graph_emit.specs.declared.fault.EmitFault.TheVariants as fault
+use Rattle.graph_emit.specs.declared.emitter.Value.{Value}
 use Rattle.graph_emit.specs.declared.fault.EmitKind.{EmitKind}
 use Rattle.graph_emit.specs.declared.fault.EmitKind.TheVariants as kind
 
@@ -23,11 +24,6 @@ pub record Made : Type 0 where
   pub form : VertexForm
   pub name : List ℕ
   pub token : ℕ
-
--- a name, and the vertex of its variable
-pub record Bound : Type 0 where
-  pub name : List ℕ
-  pub vertex : ℕ
 
 -- the graph so far, and the visible names: those of the innermost scope, and those of the scopes around it, the last one first
 pub record State : Type 0 where
@@ -83,9 +79,14 @@ abbrev pub deref_or_new : Option ℕ → Tok → ℕ → Walk ℕ
 deref_or_new (Some t) tok v = done t
 deref_or_new None tok v = fresh tok (form.Deref v) [] ⟫ λ t. join v label.D t ⟫ λ _. done t
 
+-- the number of the first vertex of a form
+abbrev pub place_of : (VertexForm → Bool) → List Made → Option ℕ
+place_of p [] = None
+place_of p (m ∷ ms) = if p m.form then Some 0 else option_map (λ n. n + 1) (place_of p ms)
+
 -- the dereference of a vertex, which is made at its first need
 abbrev pub deref_of : Tok → ℕ → Walk ℕ
-deref_of tok v s = deref_or_new (position (λ (m : Made). is_deref_of v m.form) s.vertices) tok v s
+deref_of tok v s = deref_or_new (place_of (is_deref_of v) s.vertices) tok v s
 
 abbrev pub address_or_new : Option ℕ → Tok → ℕ → Walk ℕ
 address_or_new (Some t) tok v = done t
@@ -93,7 +94,7 @@ address_or_new None tok v = fresh tok (form.Address v) [] ⟫ λ t. join t label
 
 -- the address of a vertex, which is made at its first need
 abbrev pub address_of : Tok → ℕ → Walk ℕ
-address_of tok v s = address_or_new (position (λ (m : Made). is_address_of v m.form) s.vertices) tok v s
+address_of tok v s = address_or_new (place_of (is_address_of v) s.vertices) tok v s
 
 -- `*e`, where e has vertex v: the vertex whose address v is, or else the dereference of v
 abbrev pub pointed_by : Option VertexForm → Tok → ℕ → Walk ℕ
@@ -112,11 +113,6 @@ abbrev pub addressed : Tok → ℕ → Walk ℕ
 addressed tok v s = addressed_by (form_at s.vertices v) tok v s
 
 -- ---- values
--- the vertex of an expression, and whether it is `NULL` with brackets round it or none
-pub record Value : Type 0 where
-  pub vertex : ℕ
-  pub is_null : Bool
-
 abbrev pub plain : ℕ → Value
 plain v = record { vertex = v; is_null = false }
 
@@ -129,9 +125,6 @@ abbrev pub flow : EmitKind → Value → ℕ → Walk (Unit {0})
 flow k value t = if value.is_null then null_flows k value.vertex t else join value.vertex label.A t
 
 -- ---- names
-abbrev pub bound_to : List ℕ → List Bound → Option ℕ
-bound_to name bounds = option_map (λ (b : Bound). b.vertex) (find (λ (b : Bound). bytes_eq b.name name) bounds)
-
 abbrev pub found_or : Option ℕ → Name → Walk ℕ
 found_or (Some v) name = done v
 found_or None name = refuse name.tok input.Undeclared

@@ -1,4 +1,9 @@
 //! The graph of a program.
+ghost use Rattle.std.specs.Prelude.{◌≡◌, ◌⊎◌, ◌++◌, [], Err, OnOk, MatchResult, map};
+ghost use Rattle.emit_list.specs.Vertices.{IsListed};
+ghost use Rattle.graph_emit.specs.Answers.{Answers, made};
+ghost use Rattle.graph_emit.specs.Program.{setting, item_walk, items_walk, graph_of, shown, IsGraph};
+
 use crate::emitter::{Emitter, Spot};
 use crate::expr::Setting;
 use crate::fault::{EmitFault, EmitKind};
@@ -9,7 +14,10 @@ use emit_list::{EmitEdge, EmitList};
 use std::alloc::{AllocError, Global};
 
 /// An item: variables, or the body of a function.
-fn walk_item<'p>(set: &Setting<'_, 'p>, emitter: &mut Emitter<'p>, item: &'p Item) -> Result<(), EmitFault> {
+fn walk_item<'p>(set: &Setting<'_, 'p>, emitter: &mut Emitter<'p>, item: &'p Item) -> Result<(), EmitFault>
+    ensures answer { Answers (item_walk (setting set.now.kind set.now.functions.now) item.now) emitter.old result emitter.new }
+    ensures outer { OnOk result (emitter.new.outer ≡ emitter.old.outer) }
+{
     match item {
         Item::Declared(d) => walk_vars(set, emitter, d.vars.as_slice()),
         Item::Function(f) => {
@@ -20,21 +28,30 @@ fn walk_item<'p>(set: &Setting<'_, 'p>, emitter: &mut Emitter<'p>, item: &'p Ite
 }
 
 /// The items in text order.
-fn walk_items<'p>(set: &Setting<'_, 'p>, emitter: &mut Emitter<'p>, items: &'p [Item]) -> Result<(), EmitFault> {
+fn walk_items<'p>(set: &Setting<'_, 'p>, emitter: &mut Emitter<'p>, items: &'p [Item]) -> Result<(), EmitFault>
+    ensures answer { Answers (items_walk (setting set.now.kind set.now.functions.now) items.now) emitter.old result emitter.new }
+    ensures outer { OnOk result (emitter.new.outer ≡ emitter.old.outer) }
+{
     for item in items {
         walk_item(set, emitter, item)?;
     }
     Ok(())
 }
 
-fn add_vertices(alloc: Global, list: &mut EmitList, spots: &[Spot<'_>]) -> Result<(), AllocError> {
+fn add_vertices(alloc: Global, list: &mut EmitList, spots: &[Spot<'_>]) -> Result<(), AllocError>
+    requires { IsListed (list.old.vertices ++ map (λ spot. shown (made spot)) spots.now) [] }
+    ensures { OnOk result (list.new ≡ record { vertices = list.old.vertices ++ map (λ spot. shown (made spot)) spots.now; edges = list.old.edges }) }
+{
     for spot in spots {
         list.add_vertex(alloc, spot.form, spot.name)?;
     }
     Ok(())
 }
 
-fn add_edges(list: &mut EmitList, edges: &[EmitEdge]) -> Result<(), AllocError> {
+fn add_edges(list: &mut EmitList, edges: &[EmitEdge]) -> Result<(), AllocError>
+    requires { IsListed list.old.vertices edges.now }
+    ensures { OnOk result (list.new ≡ record { vertices = list.old.vertices; edges = list.old.edges ++ edges.now }) }
+{
     for edge in edges {
         list.add_edge(*edge)?;
     }
@@ -48,7 +65,9 @@ fn add_edges(list: &mut EmitList, edges: &[EmitEdge]) -> Result<(), AllocError> 
 /// one name in one scope; `Undeclared` for a name that is not visible; `WrongArguments` for a call with too few or too
 /// many; `NoValue` for a call without a value that is used for one, and for `return` with a value in a function without
 /// one; `TooManyVertices` where a vertex would have the number 16,777,216.
-pub fn emit(alloc: Global, program: &Program, kind: EmitKind) -> Result<EmitList, EmitFault> {
+pub fn emit(alloc: Global, program: &Program, kind: EmitKind) -> Result<EmitList, EmitFault>
+    ensures { MatchResult result (λ list. IsGraph kind program.now list) (λ fault. (fault ≡ EmitFault.NoMemory) ⊎ (graph_of kind program.now ≡ Err fault)) }
+{
     let mut emitter = Emitter::new(alloc);
     let items = program.items.as_slice();
     let functions = functions_made(alloc, &mut emitter, items)?;
@@ -58,7 +77,7 @@ pub fn emit(alloc: Global, program: &Program, kind: EmitKind) -> Result<EmitList
     };
     walk_items(&set, &mut emitter, items)?;
     let mut list = EmitList::new(alloc);
-    add_vertices(alloc, &mut list, emitter.spots.as_slice())?;
-    add_edges(&mut list, emitter.edges.as_slice())?;
+    add_vertices(alloc, &mut list, emitter.spots())?;
+    add_edges(&mut list, emitter.edges())?;
     Ok(list)
 }

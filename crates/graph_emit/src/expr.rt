@@ -1,7 +1,15 @@
 //! The walk of expressions.
+ghost use Rattle.std.specs.Prelude.{◌≡◌, [], OnOk, map};
+ghost use Rattle.emit_list.specs.declared.vertex.VertexForm.TheVariants as form;
+ghost use Rattle.graph_emit.specs.State.{Setting as ASetting, ◌⟫◌, done, fresh, plain as plain_value};
+ghost use Rattle.graph_emit.specs.Answers.{Answers};
+ghost use Rattle.graph_emit.specs.Functions.{bound};
+ghost use Rattle.graph_emit.specs.Program.{setting};
+ghost use Rattle.graph_emit.specs.Walk.{given as given_step, args_flow as args_step, call_walk, value_of, place_walk, pointer_walk, unary_walk, sum_walk, compared_walk, expr_walk};
+
 use crate::emitter::{Emitter, Value, plain, refusal};
 use crate::fault::{EmitFault, EmitKind};
-use crate::functions::{Bound, Functions};
+use crate::functions::{Functions, Param};
 use c_tree::{Call, Compared, Expr, Name, Place, Pointer, Sum, Tok, Unary};
 use emit_list::{EmitLabel, VertexForm};
 use io_edge::InputKind;
@@ -14,7 +22,10 @@ pub(crate) struct Setting<'a, 'p> {
 }
 
 /// What a function gives flows to a new vertex.
-fn given<'p>(emitter: &mut Emitter<'p>, name: &'p Name, gives: Option<u32>) -> Result<Option<u32>, EmitFault> {
+fn given<'p>(emitter: &mut Emitter<'p>, name: &'p Name, gives: Option<u32>) -> Result<Option<u32>, EmitFault>
+    ensures answer { Answers (given_step name.now gives) emitter.old result emitter.new }
+    ensures outer { OnOk result (emitter.new.outer ≡ emitter.old.outer) }
+{
     let Some(r) = gives else {
         return Ok(None);
     };
@@ -29,8 +40,11 @@ fn args_flow<'p>(
     set: &Setting<'_, 'p>,
     emitter: &mut Emitter<'p>,
     args: &'p [Expr],
-    params: &[Bound<'p>],
-) -> Result<(), EmitFault> {
+    params: &[Param<'p>],
+) -> Result<(), EmitFault>
+    ensures answer { Answers (args_step set.now.kind (map (expr_walk (setting set.now.kind set.now.functions.now)) args.now) (map bound params.now)) emitter.old result emitter.new }
+    ensures outer { OnOk result (emitter.new.outer ≡ emitter.old.outer) }
+{
     for (arg, param) in args.iter().zip(params.iter()) {
         let value = walk_expr(set, emitter, arg)?;
         emitter.flow(set.kind, value, param.vertex)?;
@@ -44,7 +58,10 @@ pub(crate) fn walk_call<'p>(
     set: &Setting<'_, 'p>,
     emitter: &mut Emitter<'p>,
     call: &'p Call,
-) -> Result<Option<u32>, EmitFault> {
+) -> Result<Option<u32>, EmitFault>
+    ensures answer { Answers (call_walk (setting set.now.kind set.now.functions.now) call.now).walk emitter.old result emitter.new }
+    ensures outer { OnOk result (emitter.new.outer ≡ emitter.old.outer) }
+{
     match call {
         Call::Function { name, args } => {
             let target = set.functions.goes(name)?;
@@ -63,7 +80,9 @@ pub(crate) fn walk_call<'p>(
 }
 
 /// The token of a call's name.
-fn call_tok(call: &Call) -> Tok {
+fn call_tok(call: &Call) -> Tok
+    ensures { (set : ASetting) → result ≡ (call_walk set call.now).tok }
+{
     match call {
         Call::Function { name, args: _ } => name.tok,
         Call::Malloc { tok, size: _ } => *tok,
@@ -72,7 +91,10 @@ fn call_tok(call: &Call) -> Tok {
 
 /// The vertex of a call that is used as an expression.
 #[cycle(expr)]
-fn value_of_call<'p>(set: &Setting<'_, 'p>, emitter: &mut Emitter<'p>, call: &'p Call) -> Result<u32, EmitFault> {
+fn value_of_call<'p>(set: &Setting<'_, 'p>, emitter: &mut Emitter<'p>, call: &'p Call) -> Result<u32, EmitFault>
+    ensures answer { Answers (value_of (call_walk (setting set.now.kind set.now.functions.now) call.now)) emitter.old result emitter.new }
+    ensures outer { OnOk result (emitter.new.outer ≡ emitter.old.outer) }
+{
     match walk_call(set, emitter, call)? {
         Some(t) => Ok(t),
         None => Err(refusal(call_tok(call), InputKind::NoValue)),
@@ -85,7 +107,10 @@ pub(crate) fn walk_place<'p>(
     set: &Setting<'_, 'p>,
     emitter: &mut Emitter<'p>,
     place: &'p Place,
-) -> Result<u32, EmitFault> {
+) -> Result<u32, EmitFault>
+    ensures answer { Answers (place_walk (setting set.now.kind set.now.functions.now) place.now) emitter.old result emitter.new }
+    ensures outer { OnOk result (emitter.new.outer ≡ emitter.old.outer) }
+{
     match place {
         Place::Name(name) => emitter.variable(name),
         Place::Star { tok, pointer } => {
@@ -96,7 +121,10 @@ pub(crate) fn walk_place<'p>(
 }
 
 #[cycle(expr)]
-fn walk_pointer<'p>(set: &Setting<'_, 'p>, emitter: &mut Emitter<'p>, pointer: &'p Pointer) -> Result<u32, EmitFault> {
+fn walk_pointer<'p>(set: &Setting<'_, 'p>, emitter: &mut Emitter<'p>, pointer: &'p Pointer) -> Result<u32, EmitFault>
+    ensures answer { Answers (pointer_walk (setting set.now.kind set.now.functions.now) pointer.now) emitter.old result emitter.new }
+    ensures outer { OnOk result (emitter.new.outer ≡ emitter.old.outer) }
+{
     match pointer {
         Pointer::Name(name) => emitter.variable(name),
         Pointer::Star { tok, pointer } => {
@@ -112,7 +140,10 @@ fn walk_pointer<'p>(set: &Setting<'_, 'p>, emitter: &mut Emitter<'p>, pointer: &
 }
 
 #[cycle(expr)]
-fn walk_unary<'p>(set: &Setting<'_, 'p>, emitter: &mut Emitter<'p>, unary: &'p Unary) -> Result<Value, EmitFault> {
+fn walk_unary<'p>(set: &Setting<'_, 'p>, emitter: &mut Emitter<'p>, unary: &'p Unary) -> Result<Value, EmitFault>
+    ensures answer { Answers (unary_walk (setting set.now.kind set.now.functions.now) unary.now) emitter.old result emitter.new }
+    ensures outer { OnOk result (emitter.new.outer ≡ emitter.old.outer) }
+{
     match unary {
         Unary::Place(place) => {
             let v = walk_place(set, emitter, place)?;
@@ -144,7 +175,10 @@ fn walk_unary<'p>(set: &Setting<'_, 'p>, emitter: &mut Emitter<'p>, unary: &'p U
 
 /// Operands from left to right.
 #[cycle(expr)]
-fn walk_sum<'p>(set: &Setting<'_, 'p>, emitter: &mut Emitter<'p>, sum: &'p Sum) -> Result<Value, EmitFault> {
+fn walk_sum<'p>(set: &Setting<'_, 'p>, emitter: &mut Emitter<'p>, sum: &'p Sum) -> Result<Value, EmitFault>
+    ensures answer { Answers (sum_walk (setting set.now.kind set.now.functions.now) sum.now) emitter.old result emitter.new }
+    ensures outer { OnOk result (emitter.new.outer ≡ emitter.old.outer) }
+{
     let mut value = walk_unary(set, emitter, &sum.first)?;
     for added in sum.rest.as_slice() {
         walk_unary(set, emitter, &added.unary)?;
@@ -159,7 +193,10 @@ fn walk_compared<'p>(
     set: &Setting<'_, 'p>,
     emitter: &mut Emitter<'p>,
     compared: &'p Compared,
-) -> Result<Value, EmitFault> {
+) -> Result<Value, EmitFault>
+    ensures answer { Answers ((compared_walk (setting set.now.kind set.now.functions.now) compared.now).walk ⟫ λ _. fresh (compared_walk (setting set.now.kind set.now.functions.now) compared.now).tok form.Op [] ⟫ λ t. done (plain_value t)) emitter.old result emitter.new }
+    ensures outer { OnOk result (emitter.new.outer ≡ emitter.old.outer) }
+{
     walk_sum(set, emitter, &compared.sum)?;
     let t = emitter.fresh(compared.tok, VertexForm::Op, b"")?;
     Ok(plain(t))
@@ -171,7 +208,10 @@ pub(crate) fn walk_expr<'p>(
     set: &Setting<'_, 'p>,
     emitter: &mut Emitter<'p>,
     e: &'p Expr,
-) -> Result<Value, EmitFault> {
+) -> Result<Value, EmitFault>
+    ensures answer { Answers (expr_walk (setting set.now.kind set.now.functions.now) e.now) emitter.old result emitter.new }
+    ensures outer { OnOk result (emitter.new.outer ≡ emitter.old.outer) }
+{
     let value = walk_sum(set, emitter, &e.left)?;
     match &e.right {
         None => Ok(value),

@@ -11,6 +11,3 @@ mod stmt;
 pub use emit::emit;
 pub use emit_list::{EmitEdge, EmitLabel, EmitList, VertexForm, print_edges};
 pub use fault::{EmitFault, EmitKind};
-
-#[cfg(test)]
-mod tests;

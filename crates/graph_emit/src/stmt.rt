@@ -1,8 +1,15 @@
 //! The walk of declarations, statements and functions.
+ghost use Rattle.std.specs.Prelude.{◌≡◌, ◌++◌, [], OnOk, map, reverse};
+ghost use Rattle.graph_emit.specs.State.{scoped};
+ghost use Rattle.graph_emit.specs.Answers.{Answers};
+ghost use Rattle.graph_emit.specs.Functions.{bound, target as target_of};
+ghost use Rattle.graph_emit.specs.Program.{setting};
+ghost use Rattle.graph_emit.specs.Walk.{vars_walk, returned, in_order, stmt_walk, body_walk};
+
 use crate::emitter::{Emitter, refusal};
 use crate::expr::{Setting, walk_call, walk_expr, walk_place};
 use crate::fault::EmitFault;
-use crate::functions::{Bound, Target};
+use crate::functions::{Param, Target};
 use c_tree::{Expr, Stmt, Tok, Var};
 use io_edge::InputKind;
 
@@ -11,7 +18,10 @@ pub(crate) fn walk_vars<'p>(
     set: &Setting<'_, 'p>,
     emitter: &mut Emitter<'p>,
     vars: &'p [Var],
-) -> Result<(), EmitFault> {
+) -> Result<(), EmitFault>
+    ensures answer { Answers (vars_walk (setting set.now.kind set.now.functions.now) vars.now) emitter.old result emitter.new }
+    ensures outer { OnOk result (emitter.new.outer ≡ emitter.old.outer) }
+{
     for var in vars {
         let t = emitter.declare(&var.name)?;
         if let Some(e) = &var.value {
@@ -29,7 +39,10 @@ fn walk_return<'p>(
     tok: Tok,
     gives: Option<u32>,
     value: &'p Option<Expr>,
-) -> Result<(), EmitFault> {
+) -> Result<(), EmitFault>
+    ensures answer { Answers (returned (setting set.now.kind set.now.functions.now) tok gives value.now) emitter.old result emitter.new }
+    ensures outer { OnOk result (emitter.new.outer ≡ emitter.old.outer) }
+{
     let Some(e) = value else {
         return Ok(());
     };
@@ -47,7 +60,10 @@ fn walk_stmts<'p>(
     emitter: &mut Emitter<'p>,
     gives: Option<u32>,
     stmts: &'p [Stmt],
-) -> Result<(), EmitFault> {
+) -> Result<(), EmitFault>
+    ensures answer { Answers (in_order (map (stmt_walk (setting set.now.kind set.now.functions.now) gives) stmts.now)) emitter.old result emitter.new }
+    ensures outer { OnOk result (emitter.new.outer ≡ emitter.old.outer) }
+{
     for stmt in stmts {
         walk_stmt(set, emitter, gives, stmt)?;
     }
@@ -61,10 +77,13 @@ fn walk_block<'p>(
     emitter: &mut Emitter<'p>,
     gives: Option<u32>,
     stmts: &'p [Stmt],
-) -> Result<(), EmitFault> {
-    let around = emitter.names.open();
+) -> Result<(), EmitFault>
+    ensures answer { Answers (scoped [] (in_order (map (stmt_walk (setting set.now.kind set.now.functions.now) gives) stmts.now))) emitter.old result emitter.new }
+    ensures outer { OnOk result (emitter.new.outer ≡ emitter.old.outer) }
+{
+    let around = emitter.open();
     walk_stmts(set, emitter, gives, stmts)?;
-    emitter.names.close(around);
+    emitter.close(around);
     Ok(())
 }
 
@@ -74,7 +93,10 @@ fn walk_stmt<'p>(
     emitter: &mut Emitter<'p>,
     gives: Option<u32>,
     stmt: &'p Stmt,
-) -> Result<(), EmitFault> {
+) -> Result<(), EmitFault>
+    ensures answer { Answers (stmt_walk (setting set.now.kind set.now.functions.now) gives stmt.now) emitter.old result emitter.new }
+    ensures outer { OnOk result (emitter.new.outer ≡ emitter.old.outer) }
+{
     match stmt {
         Stmt::Declared(d) => walk_vars(set, emitter, d.vars.as_slice()),
         Stmt::Assign { place, value } => {
@@ -109,9 +131,11 @@ fn walk_stmt<'p>(
 }
 
 /// The names of parameters.
-fn bind_params<'p>(emitter: &mut Emitter<'p>, params: &[Bound<'p>]) -> Result<(), EmitFault> {
+fn bind_params<'p>(emitter: &mut Emitter<'p>, params: &[Param<'p>]) -> Result<(), EmitFault>
+    ensures { OnOk result (emitter.new ≡ record { vertices = emitter.old.vertices; edges = emitter.old.edges; inner = reverse (map bound params.now) ++ emitter.old.inner; outer = emitter.old.outer }) }
+{
     for param in params {
-        emitter.names.bind(param.name, param.vertex)?;
+        emitter.bind(param.name, param.vertex)?;
     }
     Ok(())
 }
@@ -122,10 +146,13 @@ pub(crate) fn walk_body<'p>(
     emitter: &mut Emitter<'p>,
     body: &'p [Stmt],
     target: &Target<'p>,
-) -> Result<(), EmitFault> {
-    let around = emitter.names.open();
+) -> Result<(), EmitFault>
+    ensures answer { Answers (body_walk (setting set.now.kind set.now.functions.now) body.now (target_of target.now)) emitter.old result emitter.new }
+    ensures outer { OnOk result (emitter.new.outer ≡ emitter.old.outer) }
+{
+    let around = emitter.open();
     bind_params(emitter, target.params.as_slice())?;
     walk_stmts(set, emitter, target.gives, body)?;
-    emitter.names.close(around);
+    emitter.close(around);
     Ok(())
 }
