@@ -18,8 +18,9 @@ use Rattle.c_tree.specs.declared.tree.Stmt.TheOpen as s
 use Rattle.emit_list.specs.declared.vertex.VertexForm.TheVariants as form
 use Rattle.emit_list.specs.declared.edge.EmitLabel.TheVariants as label
 use Rattle.visible_names.specs.Names.{Bound}
+use Rattle.graph_emit.specs.declared.emitter.Value.{Value}
 use Rattle.graph_emit.specs.declared.fault.EmitKind.{EmitKind}
-use Rattle.graph_emit.specs.State.{Walk, done, ◌⟫◌, refuse, fresh, join, pointed_to, addressed, Value, plain, flow, variable, declare, scoped, Target, Setting}
+use Rattle.graph_emit.specs.State.{Walk, done, ◌⟫◌, refuse, fresh, join, pointed_to, addressed, plain, flow, variable, declare, scoped, Target, Setting}
 
 -- ---- what the walk of each type gives
 -- a call: its vertex, if it has one, and the token of its name
