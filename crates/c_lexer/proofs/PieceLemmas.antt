@@ -9,7 +9,7 @@ use Rattle.std.proofs.lemmas.List.{get_or-take}
 use Rattle.std.proofs.lemmas.List.Elements.{All-from_get_or}
 use Rattle.std.proofs.lemmas.List.Folds.{length-prefix_len}
 use Rattle.std.proofs.lemmas.List.Sums.{prefix_len_passes}
-use Rattle.io_edge.specs.declared.kinds.InputKind.TheVariants.{NameTooLong}
+use Rattle.faults.specs.declared.kinds.InputKind.TheVariants.{NameTooLong}
 use Rattle.c_lexer.specs.declared.token.TokenKind.{TokenKind}
 use Rattle.c_lexer.specs.declared.token.TokenKind.TheVariants as k
 use Rattle.c_lexer.specs.declared.piece.Meaning.TheVariants.{Token}

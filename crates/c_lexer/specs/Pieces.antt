@@ -3,8 +3,8 @@ use Rattle.std.specs.Prelude.{◌≡◌, ◌≤◌, All, true, length, ℕ, ◌+
 use Rattle.std.specs.List.{prefix_len}
 use Rattle.std.specs.Option.{option_map}
 use Rattle.std.specs.Str.{bytes_eq}
-use Rattle.io_edge.specs.declared.kinds.InputKind.{InputKind}
-use Rattle.io_edge.specs.declared.kinds.InputKind.TheVariants.{BadByte, OpenComment, NameTooLong}
+use Rattle.faults.specs.declared.kinds.InputKind.{InputKind}
+use Rattle.faults.specs.declared.kinds.InputKind.TheVariants.{BadByte, OpenComment, NameTooLong}
 use Rattle.c_lexer.specs.declared.token.TokenKind.{TokenKind}
 use Rattle.c_lexer.specs.declared.token.TokenKind.TheVariants as k
 use Rattle.c_lexer.specs.declared.piece.Piece.{Piece}

@@ -19,7 +19,7 @@ use Rattle.manifest_codec.specs.Rules.{widths}
 use Rattle.manifest_codec.specs.Spelling.{Cover, Fits, width}
 use Rattle.store_law.specs.Listed.{ends_of, expect_of, part_of}
 use Rattle.store_law.proofs.Intervals.{cut_from_cover}
-use Rattle.open_store.specs.Reading.{count_into}
+use Rattle.open_store.specs.PartRead.{count_into}
 use Rattle.open_store.proofs.Tallies.{ends_count}
 use Rattle.closer.proofs.Sums.{row_sum, sum_at_most, sum_changed, sum_front, sum_of_counts, sum_same, sum_scaled, table_sum, two_changed}
 

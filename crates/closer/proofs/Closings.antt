@@ -7,10 +7,10 @@ use Rattle.normal_law.specs.NormalForm.{normal_form}
 use Rattle.closing_machine.specs.State.{IsPick}
 use Rattle.disk_model.specs.Disk.{Contents}
 use Rattle.disk_model.specs.Crash.{LeavesJust}
-use Rattle.disk_model.specs.declared.form_kind.FormKind.{FormKind}
+use Rattle.faults.specs.declared.form_kind.FormKind.{FormKind}
 use Rattle.dest_map.specs.Table.{counts_of}
 use Rattle.pair_sched.specs.Marks.{joined_of, newest_of}
-use Rattle.pair_sched.specs.Picking.{IsClean}
+use Rattle.pair_sched.specs.Pick.{IsClean}
 use Rattle.manifest_codec.specs.declared.types.Manifest.{Manifest}
 use Rattle.manifest_codec.specs.Spelling.{Fits}
 use Rattle.manifest_switch.specs.Slots.{other}
@@ -21,9 +21,9 @@ use Rattle.open_store.specs.declared.fault.StoreFault.{StoreFault}
 use Rattle.open_store.specs.declared.fault.StoreFault.TheVariants.{BadStore, DiskFault, InputFault, NoMemory, OtherInput, ReadFault}
 use Rattle.open_store.specs.Answers.{HasDiskCause}
 use Rattle.open_store.specs.Store.{IsHeldAlone, IsOpenStore, OpenStore}
-use Rattle.closer.specs.Continuing.{Continues, HasWork}
+use Rattle.closer.specs.Continuation.{Continues, HasWork}
 use Rattle.closer.specs.Answers.{BlamesPicked, IsClosed, IsStepped}
-use Rattle.closer.specs.Making.{BlamesPair, IsNext, IsOrderedPair}
+use Rattle.closer.specs.NextManifest.{BlamesPair, IsNext, IsOrderedPair}
 use Rattle.closer.proofs.Ending.{outcome}
 use Rattle.closer.proofs.Images.{continues_beside}
 use Rattle.closer.proofs.LawLemmas.{continues_further}

@@ -11,8 +11,8 @@ use Rattle.manifest_codec.specs.declared.types.Manifest.{Manifest}
 use Rattle.manifest_codec.specs.Spelling.{Fits}
 use Rattle.row_table.specs.Loaded.{span_of}
 use Rattle.open_store.specs.Store.{IsOpenStore, OpenStore}
-use Rattle.closer.specs.Continuing.{Continues, work_of}
-use Rattle.closer.specs.Making.{ArePairIn, ArePut, AreRun, AreSpelled, IsLeastMarkIn, IsMarked, IsNext, IsOrderedPair}
+use Rattle.closer.specs.Continuation.{Continues, work_of}
+use Rattle.closer.specs.NextManifest.{ArePairIn, ArePut, AreRun, AreSpelled, IsLeastMarkIn, IsMarked, IsNext, IsOrderedPair}
 use Rattle.closer.proofs.Flat.{each_one, each_two, reached_one, reached_two, still_one, still_two, turns_one, turns_two}
 use Rattle.closer.proofs.Nexting.{ends_start, part_same, some_none, some_same, well_start}
 use Rattle.closer.proofs.StepLemmas.{goes_on_one, goes_on_two}

@@ -18,10 +18,10 @@ use Rattle.manifest_codec.specs.declared.types.Manifest.{Manifest}
 use Rattle.manifest_codec.specs.Spelling.{Fits}
 use Rattle.store_law.specs.Listed.{ends_of, part_of}
 use Rattle.superstep.specs.Room.{IsInFormat}
-use Rattle.open_store.specs.Reading.{count_into}
+use Rattle.open_store.specs.PartRead.{count_into}
 use Rattle.open_store.specs.Store.{OpenStore, expect_in}
 use Rattle.open_store.proofs.Tallies.{ends_count}
-use Rattle.closer.specs.Making.{IsMarked, IsPartIn, TakesOn}
+use Rattle.closer.specs.NextManifest.{IsMarked, IsPartIn, TakesOn}
 use Rattle.closer.proofs.Bounds.{map_total, row_total}
 use Rattle.closer.proofs.Nexting.{ends_start, in_part, kept_start, size_start}
 use Rattle.closer.proofs.Running.{born_before, vertices_stay}

@@ -24,9 +24,9 @@ use Rattle.store_law.specs.Steps.{IsFree}
 use Rattle.store_law.proofs.Keeping.{file_above, file_apart, keeps_copies, kept_since}
 use Rattle.open_store.specs.Copy.{IsCopyRead}
 use Rattle.open_store.specs.Store.{IsHeldAlone, OpenStore}
-use Rattle.closer.specs.Continuing.{Continues, GoesOn, Retains}
+use Rattle.closer.specs.Continuation.{Continues, GoesOn, Retains}
 use Rattle.closer.specs.Answers.{Moves}
-use Rattle.closer.specs.Making.{Spares}
+use Rattle.closer.specs.NextManifest.{Spares}
 use Rattle.closer.proofs.LawLemmas.{continues_elsewhere, continues_further}
 
 -- ---- steps that spare a manifest

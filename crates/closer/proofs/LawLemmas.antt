@@ -23,7 +23,7 @@ use Rattle.store_law.proofs.Keeping.{listed_kept, store_kept}
 use Rattle.store_law.proofs.Named.{task_of_texts}
 use Rattle.open_store.specs.Copy.{IsCopyRead}
 use Rattle.open_store.specs.Store.{OpenStore}
-use Rattle.closer.specs.Continuing.{AfterSteps, Continues, GoesOn, IsWholePass, Retains}
+use Rattle.closer.specs.Continuation.{AfterSteps, Continues, GoesOn, IsWholePass, Retains}
 use Rattle.closer.proofs.SameTexts.{copies_further, same_further, same_here}
 
 pub retains_store : (t : Texts) (d c : Contents) (m : Manifest) (parts : List (List Born)) → IsStore t d m parts → Retains m d c → IsStore t c m parts

@@ -11,7 +11,7 @@ use Rattle.dest_map.specs.Table.{counts_of}
 use Rattle.pair_sched.specs.Marks.{joined_of, newest_of}
 use Rattle.manifest_codec.specs.declared.types.Manifest.{Manifest}
 use Rattle.store_law.specs.Listed.{ends_of, state_in}
-use Rattle.closer.specs.Making.{IsLeastMarkIn}
+use Rattle.closer.specs.NextManifest.{IsLeastMarkIn}
 
 same_number : (a b : ℕ) → (a == b) ≡ true → a ≡ b
 same_number a b e = grind (arith, nat_tests)

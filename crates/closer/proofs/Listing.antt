@@ -21,7 +21,7 @@ use Rattle.manifest_codec.specs.declared.types.Manifest.{Manifest}
 use Rattle.manifest_codec.specs.Spelling.{Fits}
 use Rattle.store_law.specs.Listed.{AreListed, ends_of, expect_of, part_file, part_of, state_in}
 use Rattle.store_law.proofs.Intervals.{listed_partitions}
-use Rattle.open_store.specs.Reading.{count_into}
+use Rattle.open_store.specs.PartRead.{count_into}
 use Rattle.open_store.proofs.Tallies.{ends_count}
 use Rattle.closer.proofs.Bounds.{cut}
 use Rattle.closer.proofs.Running.{IsKnown}

@@ -18,10 +18,10 @@ use Rattle.manifest_codec.specs.Spelling.{Fits, IsMap}
 use Rattle.store_law.specs.Listed.{ends_of, part_file, part_of}
 use Rattle.row_table.specs.declared.span.Span.{Span}
 use Rattle.row_table.specs.Loaded.{span_of}
-use Rattle.open_store.specs.Reading.{IsTold, count_into}
+use Rattle.open_store.specs.PartRead.{IsTold, count_into}
 use Rattle.open_store.specs.Store.{OpenStore}
 use Rattle.open_store.proofs.Tallies.{ends_count}
-use Rattle.closer.specs.Making.{ArePairIn, AreRun, AreSpelled, IsMarked, IsWell, MayPut, MayPutPair}
+use Rattle.closer.specs.NextManifest.{ArePairIn, AreRun, AreSpelled, IsMarked, IsWell, MayPut, MayPutPair}
 use Rattle.closer.proofs.Bounds.{cut}
 use Rattle.closer.proofs.Running.{cut_apart, in_first, in_second, old_one}
 use Rattle.closer.proofs.Turning.{KeptIn}

@@ -19,11 +19,11 @@ use Rattle.manifest_codec.specs.declared.types.Manifest.{Manifest}
 use Rattle.store_law.specs.Listed.{ends_of, part_file}
 use Rattle.store_law.specs.Steps.{IsFree}
 use Rattle.open_store.specs.declared.fault.StoreFault.{StoreFault}
-use Rattle.open_store.specs.Reading.{count_into}
-use Rattle.open_store.specs.Streaming.{IsTally}
+use Rattle.open_store.specs.PartRead.{count_into}
+use Rattle.open_store.specs.Stream.{IsTally}
 use Rattle.open_store.specs.Store.{OpenStore}
 use Rattle.open_store.proofs.Tallies.{ends_count}
-use Rattle.closer.specs.Making.{ArePut, IsWell, MayPut, MayPutPair, Puts, Refiles, Replaces, TakesOn}
+use Rattle.closer.specs.NextManifest.{ArePut, IsWell, MayPut, MayPutPair, Puts, Refiles, Replaces, TakesOn}
 use Rattle.closer.proofs.Flat.{is_it}
 use Rattle.closer.proofs.Images.{spares_only, spares_refl}
 use Rattle.closer.proofs.SameTexts.{same_here}

@@ -18,7 +18,7 @@ use Rattle.superstep.specs.Room.{IsInFormat, capacity_of}
 use Rattle.superstep.proofs.RoomLemmas.{fits}
 use Rattle.open_store.specs.Store.{IsOpenStore, OpenStore}
 use Rattle.open_store.proofs.Tallies.{ends_count}
-use Rattle.closer.specs.Making.{ArePairIn, AreRun, IfHigh, IsPartIn}
+use Rattle.closer.specs.NextManifest.{ArePairIn, AreRun, IfHigh, IsPartIn}
 use Rattle.closer.proofs.Bounds.{cut, label_fits, room_one, room_two, row_total, width_is}
 use Rattle.closer.proofs.Flat.{edge_fits}
 use Rattle.closer.proofs.Running.{cut_apart}

@@ -29,8 +29,8 @@ use Rattle.store_law.proofs.Intervals.{listed_partitions}
 use Rattle.superstep.specs.Room.{IsInFormat}
 use Rattle.open_store.specs.Store.{IsOpenStore, OpenStore}
 use Rattle.open_store.proofs.Tallies.{ends_count}
-use Rattle.closer.specs.Continuing.{AfterSteps, Continues}
-use Rattle.closer.specs.Making.{IsLeastMarkIn, IsMarked, IsOrderedPair, IsPartIn, Puts, TakesOn}
+use Rattle.closer.specs.Continuation.{AfterSteps, Continues}
+use Rattle.closer.specs.NextManifest.{IsLeastMarkIn, IsMarked, IsOrderedPair, IsPartIn, Puts, TakesOn}
 use Rattle.closer.proofs.Bounds.{cut}
 use Rattle.closer.proofs.Flat.{edge_fits, is_it, kept_one, kept_two, new_high, new_low, new_one, turns_one, turns_two}
 use Rattle.closer.proofs.Listing.{ComesIn, StaysIn, listed_after, listed_here, tells_after}

@@ -19,10 +19,10 @@ use Rattle.manifest_codec.specs.Spelling.{Cover, Fits, width}
 use Rattle.manifest_codec.specs.Same.{AreOfSameTexts}
 use Rattle.manifest_switch.specs.Slots.{next_generation}
 use Rattle.store_law.specs.Listed.{ends_of, part_of}
-use Rattle.open_store.specs.Reading.{count_into}
+use Rattle.open_store.specs.PartRead.{count_into}
 use Rattle.open_store.proofs.Tallies.{ends_count}
-use Rattle.closer.specs.Continuing.{work_of}
-use Rattle.closer.specs.Making.{IsWell}
+use Rattle.closer.specs.Continuation.{work_of}
+use Rattle.closer.specs.NextManifest.{IsWell}
 use Rattle.closer.proofs.Bounds.{counts_fit, cut, width_is}
 
 -- the tables tell of partition a what they told before

@@ -5,17 +5,17 @@ use Rattle.closing_machine.specs.State.{IsPick}
 use Rattle.closing_machine.specs.Machine.{is_among}
 use Rattle.disk_model.specs.Disk.{Contents}
 use Rattle.disk_model.specs.Crash.{LeavesJust}
-use Rattle.disk_model.specs.declared.form_kind.FormKind.{FormKind}
+use Rattle.faults.specs.declared.form_kind.FormKind.{FormKind}
 use Rattle.dest_map.specs.Table.{counts_of}
 use Rattle.pair_sched.specs.Marks.{joined_of, newest_of}
 use Rattle.manifest_switch.specs.Slots.{other}
 use Rattle.store_law.specs.Listed.{part_file}
 use Rattle.store_law.specs.Left.{IsDone}
 use Rattle.open_store.specs.Store.{IsHeldAlone, OpenStore}
-use Rattle.open_store.specs.Reading.{IsRefused}
-use Rattle.closer.specs.declared.stepping.Stepped.{Stepped}
-use Rattle.closer.specs.declared.stepping.Stepped.TheVariants.{Again, Finished}
-use Rattle.closer.specs.Continuing.{Continues, GoesOn, HasWork, Retains, work_of}
+use Rattle.open_store.specs.PartRead.{IsRefused}
+use Rattle.closer.specs.declared.step.Stepped.{Stepped}
+use Rattle.closer.specs.declared.step.Stepped.TheVariants.{Again, Finished}
+use Rattle.closer.specs.Continuation.{Continues, GoesOn, HasWork, Retains, work_of}
 
 abbrev pub IfFinished : Stepped → (OpenStore → Type 0) → Type 0
 IfFinished (Finished s) P = P s

@@ -1,3 +1,3 @@
-pub mod Continuing
+pub mod Continuation
 pub mod Answers
-pub mod Making
+pub mod NextManifest

@@ -8,7 +8,7 @@ ghost use Rattle.store_law.specs.Listed.{state_in};
 ghost use Rattle.store_law.specs.Left.{IsLeft, IsOfTexts, IsStore, IsStoreOf};
 ghost use Rattle.open_store.specs.Copy.{IsCopyRead};
 ghost use Rattle.open_store.specs.Store.{OpenStore};
-ghost use Rattle.closer.specs.Continuing.{AfterSteps, Continues, GoesOn, Retains};
+ghost use Rattle.closer.specs.Continuation.{AfterSteps, Continues, GoesOn, Retains};
 
 /// A store of two texts is one still after steps of its closing.
 pub fn steps_keep_a_store()
@@ -31,9 +31,9 @@ pub fn held_stores_have_the_rules_of_their_texts()
 {}
 
 ghost use Rattle.std.specs.Prelude.{◌<◌, length};
-ghost use Rattle.disk_model.specs.declared.form_kind.FormKind.{FormKind as AKind};
+ghost use Rattle.faults.specs.declared.form_kind.FormKind.{FormKind as AKind};
 ghost use Rattle.store_law.specs.Listed.{part_file};
-ghost use Rattle.open_store.specs.Reading.{IsRefused};
+ghost use Rattle.open_store.specs.PartRead.{IsRefused};
 
 /// No partition of a store of two texts is refused.
 pub fn stores_are_not_refused()

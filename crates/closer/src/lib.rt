@@ -2,15 +2,15 @@
 #![tactic(auto)]
 
 mod laws;
-mod making;
-mod pairing;
-mod putting;
-mod stepping;
+mod next_manifest;
+mod pair;
+mod changed_parts;
+mod step;
 mod to_end;
 
 pub use laws::{
     held_stores_have_the_rules_of_their_texts, steps_keep_a_store, stops_leave_a_store,
     stores_are_not_refused,
 };
-pub use stepping::{Stepped, step};
+pub use step::{Stepped, step};
 pub use to_end::run_to_end;

@@ -7,7 +7,7 @@ ghost use Rattle.open_store.specs.Answers.{HasDiskCause};
 ghost use Rattle.open_store.specs.Store.{IsHeldAlone};
 ghost use Rattle.closer.specs.Answers.{BlamesOnTheWay, IsClosed, Moves};
 
-use crate::stepping::{Stepped, step};
+use crate::step::{Stepped, step};
 use closing_options::RunOptions;
 use disk_model::Disk;
 use open_store::{Store, StoreFault};

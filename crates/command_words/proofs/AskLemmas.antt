@@ -13,7 +13,7 @@ use Rattle.clap.proofs.OnLiterals.{clap_on_literals}
 use Rattle.clap.proofs.ValueTestLemmas.{accepts-Accepts, Accepts-accepts}
 use Rattle.clap.proofs.WalkLemmas.{one_text-rows}
 use Rattle.command_words.specs.Command.{IsNumber, IsNumberOr, GiveNumbers}
-use Rattle.command_words.specs.Asking.{HasTexts, IsDigits, numbers_app, asked}
+use Rattle.command_words.specs.ClapNumbers.{HasTexts, IsDigits, numbers_app, asked}
 use Rattle.closing_options.specs.declared.RunOptions.{RunOptions}
 use Rattle.command_words.proofs.NumberLemmas.{all_digits, no_plus}
 

@@ -1,6 +1,6 @@
 -- Words that are cut one by one.
 use Rattle.std.proofs.Common.{◌≡◌, Option, Some, None, refl}
-use Rattle.command_words.specs.Cutting.{Cut, behind, nothing}
+use Rattle.command_words.specs.CutWords.{Cut, behind, nothing}
 
 pub behind_nothing : (o : Option Cut) → behind nothing o ≡ o
 behind_nothing None = refl

@@ -2,8 +2,8 @@
 use Rattle.std.proofs.Common.{◌≡◌, ◌≢◌, ℕ, Bool, true, false, List, [], ◌∷◌, ◌++◌, Option, Some, None, codes, cond, Contains, option_map, unwrap_or, subst, ap, refl, sym, ◌∙◌}
 use Rattle.command_words.specs.Words.{Given, given, is_dashed, Cuts}
 use Rattle.command_words.specs.Words as words
-use Rattle.command_words.specs.Cutting.{Cut, Kind, Next, any, value_for, only_plain, kind_of, kind_behind, behind_dashes, with_option, with_plain, cut_kind, cut_from, nothing}
-use Rattle.command_words.specs.Cutting as kinds
+use Rattle.command_words.specs.CutWords.{Cut, Kind, Next, any, value_for, only_plain, kind_of, kind_behind, behind_dashes, with_option, with_plain, cut_kind, cut_from, nothing}
+use Rattle.command_words.specs.CutWords as kinds
 use Rattle.command_words.proofs.KindLemmas.{KindIs, kind_is, joined_is, alone_is}
 
 -- a cut

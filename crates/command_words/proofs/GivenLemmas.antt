@@ -5,8 +5,8 @@ use Rattle.std.proofs.lemmas.List.Elements.{All-nil, All-cons, All-head, All-tai
 use Rattle.std.proofs.lemmas.List.Kept.{AllPairs-cons}
 use Rattle.std.proofs.Math.Nat.{eq-or-lt_of_le}
 use Rattle.command_words.specs.Command.{AreOptions}
-use Rattle.command_words.specs.Cutting.{given_said}
-use Rattle.command_words.specs.declared.cutting.Given.{Given}
+use Rattle.command_words.specs.CutWords.{given_said}
+use Rattle.command_words.specs.declared.cut_words.Given.{Given}
 
 module _ {X : Type 0} where
   pairs-nil : (R : X → X → Type 0) → AllPairs R []

@@ -6,7 +6,7 @@ use Rattle.std.proofs.lemmas.List.{length-take, get_or-take, take_at, get_or_at,
 use Rattle.std.proofs.Math.Seq.{drop-append-add}
 use Rattle.std.proofs.lemmas.List.Sums.{position_or_len_is, fails_before_first, passes_at_first, split_at_first}
 use Rattle.command_words.specs.Words.{is_dashed}
-use Rattle.command_words.specs.Cutting.{Kind, plain, rest, joined, alone, behind_dash, behind_dashes, kind_behind, kind_of}
+use Rattle.command_words.specs.CutWords.{Kind, plain, rest, joined, alone, behind_dash, behind_dashes, kind_behind, kind_of}
 
 abbrev is_equals : ℕ → Bool
 is_equals b = b == 61

@@ -3,7 +3,7 @@ use Rattle.std.proofs.Common.{◌≡◌, ◌≤◌, ◌<◌, ℕ, List, [], ◌�
 use Rattle.std.specs.Str.Parse.{digits_value}
 use Rattle.command_words.specs.Words.{Given}
 use Rattle.command_words.specs.Command.{Said, run, query, dump, parts, Says, Reading, IsDestination, AreNumbers, IsNumberOr, AreWithin, RunsWithin, value_of}
-use Rattle.command_words.specs.Cutting.{Cut, any, cut_from}
+use Rattle.command_words.specs.CutWords.{Cut, any, cut_from}
 use Rattle.closing_options.specs.declared.RunOptions.{RunOptions}
 use Rattle.command_words.proofs.CutsLemmas.{cut, cut_of, cuts_of}
 

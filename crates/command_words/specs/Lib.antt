@@ -1,4 +1,4 @@
 pub mod Words
 pub mod Command
-pub mod Cutting
-pub mod Asking
+pub mod CutWords
+pub mod ClapNumbers

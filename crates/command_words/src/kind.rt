@@ -1,7 +1,7 @@
 //! What a word of a command line is.
 ghost use Rattle.std.specs.Prelude.{◌≡◌, option_map};
 ghost use Rattle.command_words.specs.Words.{is_dashed as begins_with_dash};
-ghost use Rattle.command_words.specs.Cutting.{kind_of, kind_said};
+ghost use Rattle.command_words.specs.CutWords.{kind_of, kind_said};
 
 /// What a word is.
 #[derive(Clone, Copy)]

@@ -1,15 +1,15 @@
 //! The words of a command line: the command that they mean.
 #![tactic(auto)]
 
-mod asking;
+mod clap_numbers;
 mod command;
-mod cutting;
+mod cut_words;
 mod fault;
 mod kind;
-mod reading;
+mod command_line;
 mod run_numbers;
 mod run_options;
 
 pub use command::Command;
 pub use fault::WordsFault;
-pub use reading::{one_reading, read_command};
+pub use command_line::{one_reading, read_command};

@@ -3,12 +3,12 @@ ghost use Rattle.std.specs.Prelude.{◌≡◌, ◌↔◌, IsTrue, IfOk, IfErr, I
 ghost use Rattle.std.specs.Option.{option_copied};
 ghost use Rattle.command_words.specs.declared.fault.WordsFault.TheVariants.{Words};
 ghost use Rattle.closing_options.specs.declared.RunOptions.{RunOptions as Numbers};
-ghost use Rattle.command_words.specs.Asking.{IsDigits};
+ghost use Rattle.command_words.specs.ClapNumbers.{IsDigits};
 ghost use Rattle.command_words.specs.Command.{AreNumbers};
-ghost use Rattle.command_words.specs.Cutting.{given_said};
+ghost use Rattle.command_words.specs.CutWords.{given_said};
 
-use crate::asking::ask_numbers;
-use crate::cutting::Given;
+use crate::clap_numbers::ask_numbers;
+use crate::cut_words::Given;
 use crate::fault::WordsFault;
 use crate::run_options::find_option;
 use closing_options::RunOptions;

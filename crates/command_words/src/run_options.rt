@@ -1,9 +1,9 @@
 //! The options of a run.
 ghost use Rattle.std.specs.Prelude.{◌≡◌, ◌≢◌, ◌↔◌, IsTrue, All, AllPairs, Contains, map, option_map};
 ghost use Rattle.command_words.specs.Command.{AreOptions, run_options, value_of};
-ghost use Rattle.command_words.specs.Cutting.{given_said};
+ghost use Rattle.command_words.specs.CutWords.{given_said};
 
-use crate::cutting::Given;
+use crate::cut_words::Given;
 
 /// The names of a run's options.
 const RUN_OPTIONS: [&str; 4] = ["workers", "part-edges", "budget", "show"];

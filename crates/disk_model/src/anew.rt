@@ -1,7 +1,8 @@
 //! A file that is written anew.
 
 ghost use Rattle.std.specs.Prelude.{◌≡◌, ◌<◌, IsTrue, OnOk};
-ghost use Rattle.disk_model.specs.Disk.{HasCause, Sets};
+ghost use Rattle.faults.specs.Counts.{HasCause};
+ghost use Rattle.disk_model.specs.Disk.{Sets};
 ghost use Rattle.disk_model.specs.View.{LeavesBy};
 ghost use Rattle.disk_model.specs.OneFile.{OnlyFile};
 

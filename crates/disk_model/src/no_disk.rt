@@ -1,7 +1,8 @@
 //! A disk that isn't there.
 ghost use Rattle.std.specs.Prelude.{◌≡◌, ℕ, false, [], IsErr};
 ghost use Rattle.std.proofs.lemmas.Bool.{false≢true};
-ghost use Rattle.disk_model.specs.Disk.{Contents, HasFailed};
+ghost use Rattle.faults.specs.Counts.{HasFailed};
+ghost use Rattle.disk_model.specs.Disk.{Contents};
 
 use crate::disk::{Disk, Failed};
 

@@ -11,8 +11,8 @@ use Rattle.graph_words.specs.declared.types.Edge.{Edge}
 use Rattle.graph_words.specs.Text.{words, is_skipped, is_label_word, is_vertex_word, distinct, said, same_name, third, with_names}
 use Rattle.graph_words.proofs.SaidLemmas.{said_cons}
 use Rattle.graph_words.proofs.NameLemmas.{Grown, any-distinct, distinct-once, distinct-append, with_names-append, with_names-grown, length-grown}
-use Rattle.io_edge.specs.declared.kinds.InputKind.{InputKind}
-use Rattle.io_edge.specs.declared.kinds.InputKind.TheVariants.{LineTooLong, TooLong, BadSource, BadDestination, BadLabel, TooManyLabels}
+use Rattle.faults.specs.declared.kinds.InputKind.{InputKind}
+use Rattle.faults.specs.declared.kinds.InputKind.TheVariants.{LineTooLong, TooLong, BadSource, BadDestination, BadLabel, TooManyLabels}
 use Rattle.io_edge.specs.Lines.{segments, line, lines, without_end}
 use Rattle.io_edge.specs.FirstFault.{Fault, fault_or, line_fault, with_line, first_fault}
 use Rattle.edge_text.specs.EdgesText.{edge_fault, ReadsEdges}

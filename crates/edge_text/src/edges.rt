@@ -1,12 +1,12 @@
 //! The edges of a file, which is read piece by piece.
 ghost use Rattle.std.specs.Prelude.{◌≡◌, ◌<◌, ◌≤◌, ◌^◌, ℕ, List, Some, IfOk, IfErr, OnErr, [], true, length};
-ghost use Rattle.io_edge.specs.declared.kinds.InputKind.{InputKind as AKind};
-ghost use Rattle.io_edge.specs.Devices.{Rose};
+ghost use Rattle.faults.specs.declared.kinds.InputKind.{InputKind as AKind};
+ghost use Rattle.faults.specs.Counts.{Rose};
 ghost use Rattle.io_edge.specs.View.{NoCountFalls};
 ghost use Rattle.graph_words.specs.Reach.{graph_with, IsGraph};
 ghost use Rattle.graph_words.specs.Text.{distinct};
 ghost use Rattle.edge_text.specs.EdgesText.{edges_fault, vertex_count_of, ReadsFile};
-ghost use Rattle.edge_text.specs.Feeding.{IsFed};
+ghost use Rattle.edge_text.specs.Feed.{IsFed};
 
 use crate::feed::EdgeReader;
 use graph_words::{Edge, EdgeList};

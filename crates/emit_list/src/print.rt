@@ -1,6 +1,7 @@
 //! The text of a list.
 ghost use Rattle.std.specs.Prelude.{◌≡◌, ◌<◌, ◌+◌, ◌++◌, ◌∷◌, [], length, decimal, Some, slice_get, IfSome, map};
-ghost use Rattle.io_edge.specs.Devices.{HasCause, Takes};
+ghost use Rattle.faults.specs.Counts.{HasCause};
+ghost use Rattle.io_edge.specs.Devices.{Takes};
 ghost use Rattle.emit_list.specs.Printed.{text_of, base_text as text_of_base, vertex_line, edge_line_of, list_bytes};
 
 use crate::edge::EmitEdge;

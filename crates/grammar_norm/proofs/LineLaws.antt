@@ -7,7 +7,7 @@ use Rattle.std.proofs.lemmas.Bool.Decides.{nat_tests}
 use Rattle.std.proofs.lemmas.List.Elements.{All-map, All-push, All-weaker}
 use Rattle.graph_words.specs.Text.{IsLabel, is_label_word, is_skipped, words}
 use Rattle.graph_words.proofs.TestLemmas.{labels_from_test}
-use Rattle.io_edge.specs.declared.kinds.InputKind.{InputKind}
+use Rattle.faults.specs.declared.kinds.InputKind.{InputKind}
 use Rattle.io_edge.specs.FirstFault.{line_fault, with_line}
 use Rattle.io_edge.specs.Lines.{line, lines, segments}
 use Rattle.io_edge.proofs.FaultLemmas.{IsFaultless, each_is_faultless, faultless_words}

@@ -1,7 +1,7 @@
 //! A folder of the system as a disk: the trusted edge. No clause says what its files hold.
 ghost use Rattle.std.specs.Prelude.{◌≡◌, ◌+◌, ◌<◌, ◌≤◌, ◌^◌, false, [], length, IfOk};
 ghost use Rattle.std.proofs.lemmas.Bool.{false≢true};
-ghost use Rattle.disk_model.specs.Disk.{HasFailed};
+ghost use Rattle.faults.specs.Counts.{HasFailed};
 
 use crate::failure::Reason;
 use crate::heading::heading_of;

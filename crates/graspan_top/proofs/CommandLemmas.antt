@@ -8,9 +8,9 @@ use Rattle.command_words.specs.Command.{Said, run, query, dump, parts}
 use Rattle.graspan_top.specs.Command.{Explains, IsBegunOf}
 use Rattle.graspan_top.specs.Faults.{of_words}
 use Rattle.graspan_top.specs.Given.{Given}
-use Rattle.graspan_top.specs.Printing.{Begins}
+use Rattle.graspan_top.specs.Printed.{Begins}
 use Rattle.graspan_top.specs.Run.{IsRunBegun}
-use Rattle.graspan_top.specs.Looking.{IsAny, IsDumpFront, IsPartsText, IsQueryText, IsKnownIn, IsUnfinished, IsUnknownIn, none_undone, none_unknown, wants_all, wants_none, wants_one}
+use Rattle.graspan_top.specs.Looks.{IsAny, IsDumpFront, IsPartsText, IsQueryText, IsKnownIn, IsUnfinished, IsUnknownIn, none_undone, none_unknown, wants_all, wants_none, wants_one}
 use Rattle.graspan_top.specs.declared.status.Status.{Status}
 use Rattle.graspan_top.specs.declared.status.Status.TheVariants.{Done, NoMemory, Words}
 use Rattle.graspan_top.proofs.ExplainLemmas.{explains_later}

@@ -2,7 +2,7 @@
 use Rattle.std.proofs.Common.{◌≡◌, inl, inr, ℕ, List, [], ◌++◌, length, drop, Some, None, sym, ap, ◌∙◌, arith}
 use Rattle.std.proofs.lemmas.List.{take-append-drop}
 use Rattle.io_edge.specs.FirstFault.{Fault}
-use Rattle.io_edge.specs.Reading.{ReadsWhole}
+use Rattle.io_edge.specs.WholeRead.{ReadsWhole}
 use Rattle.io_edge.proofs.FaultLemmas.{long_text_has_fault}
 use Rattle.grammar_norm.specs.GrammarText.{grammar_fault, rule_fault}
 

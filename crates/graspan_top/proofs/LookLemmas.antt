@@ -8,8 +8,9 @@ use Rattle.label_table.specs.Names.{IsTable}
 use Rattle.graph_words.specs.declared.types.LabelId.{LabelId}
 use Rattle.graph_words.specs.declared.types.Born.{Born}
 use Rattle.query_text.specs.Text.{answers_text}
-use Rattle.disk_model.specs.Disk.{Contents, Rose as DiskRose}
-use Rattle.disk_model.specs.declared.form_kind.FormKind.{FormKind}
+use Rattle.faults.specs.Counts.{Rose}
+use Rattle.disk_model.specs.Disk.{Contents}
+use Rattle.faults.specs.declared.form_kind.FormKind.{FormKind}
 use Rattle.manifest_codec.specs.declared.types.Manifest.{Manifest}
 use Rattle.open_store.specs.declared.fault.StoreFault.TheVariants as stores
 use Rattle.open_store.specs.Store.{IsHeld, OpenStore}
@@ -17,11 +18,10 @@ use Rattle.query_text.specs.declared.fault.AnswerFault.{AnswerFault}
 use Rattle.query_text.specs.declared.fault.AnswerFault.TheVariants as answers
 use Rattle.query_text.specs.Answered.{HasAnswerCause, HasWriteCause, IsBlamed}
 use Rattle.query_text.proofs.Showing.{cause_later}
-use Rattle.io_edge.specs.Devices.{Rose}
 use Rattle.graspan_top.specs.Faults.{of_answer}
 use Rattle.graspan_top.specs.Given.{Given}
-use Rattle.graspan_top.specs.Looking.{HasCurrent, IsUnfinished, LookExplains, Wants, loading, opening}
-use Rattle.graspan_top.specs.Printing.{status_of}
+use Rattle.graspan_top.specs.Looks.{HasCurrent, IsUnfinished, LookExplains, Wants, loading, opening}
+use Rattle.graspan_top.specs.Printed.{status_of}
 use Rattle.graspan_top.specs.Run.{IsShownText}
 use Rattle.graspan_top.specs.Stages.{FindExplains}
 use Rattle.graspan_top.specs.declared.status.Status.{Status}
@@ -102,7 +102,7 @@ module _ (x : Given) (w : Wants) (Ready : Manifest → Type 0) (Undone : Manifes
     pub current_ready : IsTrue x.tells → (m : Manifest) × HasCurrent x.before m × Ready m
     current_ready tells = (s.manifest, (s.slot, (held tells).current), ready)
 
-    pub print_explains : (T : Type 0) (writes writes' before now : ℕ) (f : AnswerFault) → HasAnswerCause {T = T} writes writes' before now (IsBlamed s x.tells x.before (w.first s) (w.number s)) (Err f) → LookExplains x w Ready Undone Unknown (DiskRose before now) (Rose writes writes') (of_answer f)
+    pub print_explains : (T : Type 0) (writes writes' before now : ℕ) (f : AnswerFault) → HasAnswerCause {T = T} writes writes' before now (IsBlamed s x.tells x.before (w.first s) (w.number s)) (Err f) → LookExplains x w Ready Undone Unknown (Rose before now) (Rose writes writes') (of_answer f)
     print_explains T writes writes' before now answers.DiskFault h = h
     print_explains T writes writes' before now (answers.BadStore f p k) h = λ tells. loading s (held tells) ready (subst (λ (b : Bool). IsBlamed s b x.before (w.first s) (w.number s) f p k) tells h)
     print_explains T writes writes' before now answers.WriteFault h = (h, current_ready)
@@ -115,11 +115,11 @@ module _ (x : Given) (w : Wants) (Ready : Manifest → Type 0) (Undone : Manifes
     write_explains T writes writes' rose answers.NoMemory h = absurd h
 
     -- a call that prints fails
-    pub printing_refused : {T : Type 0} (U : Type 0) (writes writes' before mid now : ℕ) (seen : Contents) (f : AnswerFault) (r : Result T Status) → IsErrAnd r (λ y. y ≡ of_answer f) → before ≤ mid → seen ≡ x.before → HasAnswerCause {T = U} writes writes' mid now (IsBlamed s x.tells seen (w.first s) (w.number s)) (Err f) → LookExplains x w Ready Undone Unknown (DiskRose before now) (Rose writes writes') (status_of r)
+    pub printing_refused : {T : Type 0} (U : Type 0) (writes writes' before mid now : ℕ) (seen : Contents) (f : AnswerFault) (r : Result T Status) → IsErrAnd r (λ y. y ≡ of_answer f) → before ≤ mid → seen ≡ x.before → HasAnswerCause {T = U} writes writes' mid now (IsBlamed s x.tells seen (w.first s) (w.number s)) (Err f) → LookExplains x w Ready Undone Unknown (Rose before now) (Rose writes writes') (status_of r)
     printing_refused {T} U writes writes' before mid now seen f r is later same h =
         let same_store = λ (file place : ℕ) (kind : FormKind) (b : IsBlamed s x.tells seen (w.first s) (w.number s) file place kind). subst (λ (c : Contents). IsBlamed s x.tells c (w.first s) (w.number s) file place kind) same b in
         let cause = cause_later writes writes writes' before mid now (IsBlamed s x.tells seen (w.first s) (w.number s)) (IsBlamed s x.tells x.before (w.first s) (w.number s)) U U f (omega arith) later same_store h in
-        status_at (λ (y : Status). LookExplains x w Ready Undone Unknown (DiskRose before now) (Rose writes writes') y) r (of_answer f) is (print_explains U writes writes' before now f cause)
+        status_at (λ (y : Status). LookExplains x w Ready Undone Unknown (Rose before now) (Rose writes writes') y) r (of_answer f) is (print_explains U writes writes' before now f cause)
 
     pub writing_refused : {T : Type 0} (U : Type 0) (writes writes' : ℕ) (rose : Type 0) (f : AnswerFault) (r : Result T Status) → IsErrAnd r (λ y. y ≡ of_answer f) → HasWriteCause {T = U} writes writes' (Err f) → LookExplains x w Ready Undone Unknown rose (Rose writes writes') (status_of r)
     writing_refused {T} U writes writes' rose f r is h =

@@ -2,7 +2,7 @@
 use Rattle.std.proofs.Common.{◌≡◌, ◌≢◌, ◌⊎◌, inl, inr, ℕ, List, Option, Some, Ok, refl, sym, ap, subst, ◌∙◌, arith}
 use Rattle.std.specs.Prelude.{IsTrue, Bool, Result, Err, IfOk}
 use Rattle.graph_words.specs.declared.types.Born.{Born}
-use Rattle.io_edge.specs.declared.kinds.InputFile.TheVariants.{Grammar, Edges}
+use Rattle.faults.specs.declared.kinds.InputFile.TheVariants.{Grammar, Edges}
 use Rattle.normal_law.specs.Closure.{Normal}
 use Rattle.normal_law.specs.NormalForm.{normal_form}
 use Rattle.disk_model.specs.Disk.{Contents}
@@ -19,11 +19,11 @@ use Rattle.store_law.specs.Left.{IsDone, IsLeft, IsStore, IsStoreOf}
 use Rattle.store_law.proofs.Exact.{exact_store}
 use Rattle.store_law.proofs.Keeping.{beside_slots, imported_store, stays_left}
 use Rattle.open_store.specs.Answers.{copy_of}
-use Rattle.open_store.specs.Opening.{IsOpened, IsOpenedAlone}
+use Rattle.open_store.specs.Opened.{IsOpened, IsOpenedAlone}
 use Rattle.open_store.specs.declared.fault.StoreFault.{StoreFault}
 use Rattle.open_store.specs.Store.{IsHeld, IsHeldAlone, OpenStore}
 use Rattle.store.specs.Import.{IsImportOf, IsNewStore, texts_of}
-use Rattle.closer.specs.Continuing.{Continues}
+use Rattle.closer.specs.Continuation.{Continues}
 use Rattle.closer.specs.Answers.{IsClosed}
 use Rattle.closer.proofs.LawLemmas.{rules_held, store_after}
 use Rattle.graspan_top.specs.Given.{Given, WhereTold}

@@ -15,13 +15,13 @@ use Rattle.store_law.specs.Left.{IsDone}
 use Rattle.store_law.specs.Listed.{AreListed, part_file}
 use Rattle.open_store.specs.Copy.{IsCopyRead}
 use Rattle.open_store.specs.Store.{IsHeld, OpenStore}
-use Rattle.open_store.specs.Reading.{IsRead}
+use Rattle.open_store.specs.PartRead.{IsRead}
 use Rattle.query_text.specs.declared.fault.AnswerFault.{AnswerFault}
 use Rattle.query_text.specs.declared.fault.AnswerFault.TheVariants as answers
 use Rattle.query_text.specs.Text.{head_text, tally_text}
 use Rattle.query_text.specs.Answered.{AreListedIn, AreRead}
 use Rattle.graspan_top.specs.Faults.{of_answer}
-use Rattle.graspan_top.specs.Printing.{IsNothingOr, PrintsFirst, TakesBegun, TakesPrefix}
+use Rattle.graspan_top.specs.Printed.{IsNothingOr, PrintsFirst, TakesBegun, TakesPrefix}
 use Rattle.graspan_top.specs.Run.{IsEnd, IsRunBegun, IsRunText, IsShownText, done_line}
 use Rattle.graspan_top.specs.Stages.{IsShowBegun, shown_text}
 

@@ -17,7 +17,7 @@ use Rattle.store_law.proofs.Keeping.{fresh_holds, stays_left}
 use Rattle.open_store.specs.Store.{IsHeldAlone, OpenStore}
 use Rattle.store.specs.Import.{HasFresh, Imports, texts_of}
 use Rattle.closer.specs.Answers.{Moves}
-use Rattle.closer.specs.Continuing.{GoesOn}
+use Rattle.closer.specs.Continuation.{GoesOn}
 use Rattle.closer.proofs.LawLemmas.{left_further, retains_store, rules_held}
 use Rattle.graspan_top.specs.Run.{StopsLeave}
 use Rattle.graspan_top.specs.Stages.{IsGrammarFile}

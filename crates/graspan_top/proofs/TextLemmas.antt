@@ -15,7 +15,7 @@ use Rattle.partition_file.specs.Spelling.{Fits, IsExpect, Part}
 use Rattle.partition_file.proofs.FileLaws.{one_part}
 use Rattle.dest_map.specs.Table.{Comes, counts_of}
 use Rattle.pair_sched.specs.Marks.{joined_of, newest_of}
-use Rattle.pair_sched.specs.Picking.{IsLeastDirty}
+use Rattle.pair_sched.specs.Pick.{IsLeastDirty}
 use Rattle.manifest_codec.specs.declared.types.Manifest.{Manifest}
 use Rattle.manifest_switch.specs.declared.slot.Found.{Found}
 use Rattle.manifest_switch.specs.declared.slot.Found.TheVariants.{At, Blank}
@@ -25,7 +25,7 @@ use Rattle.store_law.specs.Left.{IsDone}
 use Rattle.store_law.proofs.Intervals.{cut_from_cover}
 use Rattle.open_store.specs.Copy.{IsCopyRead}
 use Rattle.open_store.specs.Store.{IsHeld, IsOpenStore, OpenStore, expect_in}
-use Rattle.open_store.specs.Reading.{IsRead}
+use Rattle.open_store.specs.PartRead.{IsRead}
 use Rattle.query_text.specs.Answered.{AreListedIn, AreRead, IsPrinted}
 use Rattle.query_text.specs.Text.{IsStateLine, answers_in, answers_text, dump_text, head_text, unfinished_line}
 use Rattle.query_text.specs.Text.IsStateLine.{finished, unfinished}
@@ -35,8 +35,8 @@ use Rattle.query_text.proofs.Gathering.{nothing_taken}
 use Rattle.query_text.proofs.Reading.{ends_within}
 use Rattle.query_text.proofs.Showing.{handed_on}
 use Rattle.graspan_top.specs.Faults.{of_answer}
-use Rattle.graspan_top.specs.Looking.{HasCurrent, IsDumpFront, IsDumpText, IsPartEnd, IsPartsText, IsQueryText, count_line}
-use Rattle.graspan_top.specs.Printing.{Begins, IsNothingOr, PrintsFirst, TakesBegun, TakesPrefix, status_of}
+use Rattle.graspan_top.specs.Looks.{HasCurrent, IsDumpFront, IsDumpText, IsPartEnd, IsPartsText, IsQueryText, count_line}
+use Rattle.graspan_top.specs.Printed.{Begins, IsNothingOr, PrintsFirst, TakesBegun, TakesPrefix, status_of}
 use Rattle.graspan_top.specs.Run.{IsEnd}
 use Rattle.graspan_top.specs.declared.status.Status.{Status}
 use Rattle.graspan_top.specs.declared.status.Status.TheVariants.{Done, Words, InputFault, OtherInput, ReadFault, DiskFault, WriteFault, NoMemory, BadStore, NoStore, Unfinished, NotKnown}

@@ -1,17 +1,17 @@
 -- A call of the program seen whole: what it is handed, what is there after it, and which counts of faults rose.
 use Rattle.std.specs.Prelude.{◌≡◌, ◌⊎◌, ℕ, IsTrue, List, Option, Some}
 use Rattle.disk_model.specs.declared.disk.Disk as disk
-use Rattle.disk_model.specs.Disk.{Contents, Rose as DiskRose}
+use Rattle.faults.specs.Counts.{Rose}
+use Rattle.disk_model.specs.Disk.{Contents}
 use Rattle.io_edge.specs.declared.devices.Inputs as inputs
 use Rattle.io_edge.specs.declared.devices.Sink as sink
-use Rattle.io_edge.specs.Devices.{Rose}
 use Rattle.store_law.specs.Left.{IsLeft}
 use Rattle.store_law.specs.Listed.{AreExact}
 use Rattle.store.specs.Import.{texts_of}
 use Rattle.command_words.specs.Command.{Reading, Said}
 use Rattle.graspan_top.specs.Command.{Explains, IsBegunOf, IsTextOf}
 use Rattle.graspan_top.specs.Given.{Given}
-use Rattle.graspan_top.specs.Printing.{BeginsWhole, Ends, Prints}
+use Rattle.graspan_top.specs.Printed.{BeginsWhole, Ends, Prints}
 use Rattle.graspan_top.specs.Run.{StopsLeave}
 use Rattle.graspan_top.specs.declared.status.Status.{Status}
 use Rattle.graspan_top.specs.declared.status.Status.TheVariants.{NoMemory, Words}
@@ -35,7 +35,7 @@ the_call i d o inputs inputs' disk disk' out out' =
       given = record { told = i.told inputs; tells = d.tells; before = d.seen disk };
       after = d.seen disk';
       read_rose = λ name. Rose (i.faults inputs name) (i.faults inputs' name);
-      disk_rose = DiskRose (d.faults disk) (d.faults disk');
+      disk_rose = Rose (d.faults disk) (d.faults disk');
       out_rose = Rose (o.faults out) (o.faults out');
       printed_before = o.told out;
       printed_after = o.told out';

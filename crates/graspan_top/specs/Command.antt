@@ -3,9 +3,9 @@ use Rattle.std.specs.Prelude.{ℕ, List, Option}
 use Rattle.disk_model.specs.Disk.{Contents}
 use Rattle.command_words.specs.Command.{Said, run, query, dump, parts}
 use Rattle.graspan_top.specs.Given.{Given}
-use Rattle.graspan_top.specs.Printing.{IsNothingOr, Prints}
+use Rattle.graspan_top.specs.Printed.{IsNothingOr, Prints}
 use Rattle.graspan_top.specs.Run.{IsRunBegun, IsRunText, RunExplains}
-use Rattle.graspan_top.specs.Looking.{DumpExplains, IsDumpFront, IsDumpText, IsPartsText, IsQueryText, PartsExplains, QueryExplains}
+use Rattle.graspan_top.specs.Looks.{DumpExplains, IsDumpFront, IsDumpText, IsPartsText, IsQueryText, PartsExplains, QueryExplains}
 use Rattle.graspan_top.specs.declared.status.Status.{Status}
 
 -- why the command has this answer: reads_rose says of a name that its count of faults rose

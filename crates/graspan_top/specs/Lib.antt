@@ -2,9 +2,9 @@ pub mod Codes
 pub mod Names
 pub mod Faults
 pub mod Given
-pub mod Printing
+pub mod Printed
 pub mod Run
-pub mod Looking
+pub mod Looks
 pub mod Command
 pub mod Stages
 pub mod Call

@@ -1,21 +1,21 @@
 -- The names of files and kinds in a printed fault.
 use Rattle.std.specs.Prelude.{ℕ, List, codes}
-use Rattle.io_edge.specs.declared.kinds.InputFile.{InputFile}
-use Rattle.io_edge.specs.declared.kinds.InputFile.TheVariants.{Grammar, Edges, Source, Proof, Questions}
-use Rattle.io_edge.specs.declared.kinds.InputKind.{InputKind}
-use Rattle.io_edge.specs.declared.kinds.InputKind.TheVariants.{LineTooLong, TooLong, WrongCount, BadSource}
-use Rattle.io_edge.specs.declared.kinds.InputKind.TheVariants.{BadDestination, BadLabel, RightTooLong, TooManyRules}
-use Rattle.io_edge.specs.declared.kinds.InputKind.TheVariants.{TooManyLabels, BadByte, OpenComment, NameTooLong}
-use Rattle.io_edge.specs.declared.kinds.InputKind.TheVariants.{Unexpected, TooDeep, Undeclared, Repeated}
-use Rattle.io_edge.specs.declared.kinds.InputKind.TheVariants.{WrongArguments, NoValue, TooManyVertices, BadNode}
-use Rattle.io_edge.specs.declared.kinds.InputKind.TheVariants.{BadStep, NoNode, TooManyQuestions}
-use Rattle.disk_model.specs.declared.form_kind.FormKind.{FormKind}
-use Rattle.disk_model.specs.declared.form_kind.FormKind.TheVariants.{BadMagic, Short, Extra, BadNumber}
-use Rattle.disk_model.specs.declared.form_kind.FormKind.TheVariants.{RepeatedLabel, BadParts, BadFile, BadCount}
-use Rattle.disk_model.specs.declared.form_kind.FormKind.TheVariants.{BadMark, BadBounds, BadOrder, BadVertex}
-use Rattle.disk_model.specs.declared.form_kind.FormKind.TheVariants.{BadBirth, BadText, Counts, Generations}
-use Rattle.disk_model.specs.declared.form_kind.FormKind.TheVariants.{NoCause}
-use Rattle.disk_model.specs.declared.form_kind.FormKind.TheVariants as forms
+use Rattle.faults.specs.declared.kinds.InputFile.{InputFile}
+use Rattle.faults.specs.declared.kinds.InputFile.TheVariants.{Grammar, Edges, Source, Proof, Questions}
+use Rattle.faults.specs.declared.kinds.InputKind.{InputKind}
+use Rattle.faults.specs.declared.kinds.InputKind.TheVariants.{LineTooLong, TooLong, WrongCount, BadSource}
+use Rattle.faults.specs.declared.kinds.InputKind.TheVariants.{BadDestination, BadLabel, RightTooLong, TooManyRules}
+use Rattle.faults.specs.declared.kinds.InputKind.TheVariants.{TooManyLabels, BadByte, OpenComment, NameTooLong}
+use Rattle.faults.specs.declared.kinds.InputKind.TheVariants.{Unexpected, TooDeep, Undeclared, Repeated}
+use Rattle.faults.specs.declared.kinds.InputKind.TheVariants.{WrongArguments, NoValue, TooManyVertices, BadNode}
+use Rattle.faults.specs.declared.kinds.InputKind.TheVariants.{BadStep, NoNode, TooManyQuestions}
+use Rattle.faults.specs.declared.form_kind.FormKind.{FormKind}
+use Rattle.faults.specs.declared.form_kind.FormKind.TheVariants.{BadMagic, Short, Extra, BadNumber}
+use Rattle.faults.specs.declared.form_kind.FormKind.TheVariants.{RepeatedLabel, BadParts, BadFile, BadCount}
+use Rattle.faults.specs.declared.form_kind.FormKind.TheVariants.{BadMark, BadBounds, BadOrder, BadVertex}
+use Rattle.faults.specs.declared.form_kind.FormKind.TheVariants.{BadBirth, BadText, Counts, Generations}
+use Rattle.faults.specs.declared.form_kind.FormKind.TheVariants.{NoCause}
+use Rattle.faults.specs.declared.form_kind.FormKind.TheVariants as forms
 
 abbrev pub file_name : InputFile → List ℕ
 file_name Grammar = codes "grammar"

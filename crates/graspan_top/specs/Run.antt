@@ -3,15 +3,15 @@ use Rattle.std.specs.Prelude.{◌≡◌, ◌⊎◌, ℕ, true, IsTrue, List, [],
 use Rattle.graph_words.specs.declared.types.LabelId.{LabelId}
 use Rattle.graph_words.specs.declared.types.Born.{Born}
 use Rattle.graph_words.specs.declared.types.Rule.{Rule}
-use Rattle.io_edge.specs.declared.kinds.InputFile.{InputFile}
-use Rattle.io_edge.specs.declared.kinds.InputFile.TheVariants.{Grammar, Edges}
+use Rattle.faults.specs.declared.kinds.InputFile.{InputFile}
+use Rattle.faults.specs.declared.kinds.InputFile.TheVariants.{Grammar, Edges}
 use Rattle.edge_text.specs.EdgesText.{edges_fault}
 use Rattle.grammar_norm.specs.GrammarText.{grammar_fault, grammar_names}
 use Rattle.normal_law.specs.NormalForm.{normal_form}
 use Rattle.closing_machine.specs.Parts.{all_edges}
 use Rattle.disk_model.specs.Disk.{Contents}
 use Rattle.disk_model.specs.Crash.{LeavesOnly}
-use Rattle.disk_model.specs.declared.form_kind.FormKind.{FormKind}
+use Rattle.faults.specs.declared.form_kind.FormKind.{FormKind}
 use Rattle.manifest_codec.specs.declared.types.Manifest.{Manifest}
 use Rattle.manifest_switch.specs.declared.slot.Slot.{Slot}
 use Rattle.manifest_switch.specs.declared.slot.Found.TheVariants.{At, Blank}
@@ -22,7 +22,7 @@ use Rattle.store_law.specs.Listed.{AreListed}
 use Rattle.store_law.specs.Left.{IsDone, IsLeft, IsStoreOf}
 use Rattle.open_store.specs.Answers.{DiffersFirst, copy_of}
 use Rattle.open_store.specs.Copy.{IsCopyRead}
-use Rattle.open_store.specs.Opening.{IsBadStore}
+use Rattle.open_store.specs.Opened.{IsBadStore}
 use Rattle.open_store.specs.Store.{IsHeld, OpenStore}
 use Rattle.store.specs.Import.{texts_of}
 use Rattle.closer.specs.Answers.{BlamesOnTheWay}

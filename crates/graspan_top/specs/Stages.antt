@@ -2,7 +2,7 @@
 use Rattle.std.specs.Prelude.{◌≡◌, ◌⊎◌, ◌++◌, ℕ, Bool, IsTrue, List, [], length, Contains, Option, Some, None, Ok}
 use Rattle.graph_words.specs.declared.types.LabelId.{LabelId}
 use Rattle.graph_words.specs.declared.types.Born.{Born}
-use Rattle.io_edge.specs.declared.kinds.InputFile.TheVariants.{Grammar, Edges}
+use Rattle.faults.specs.declared.kinds.InputFile.TheVariants.{Grammar, Edges}
 use Rattle.grammar_norm.specs.GrammarText.{grammar_fault}
 use Rattle.disk_model.specs.Disk.{Contents}
 use Rattle.disk_model.specs.Crash.{LeavesJust}
@@ -13,12 +13,12 @@ use Rattle.open_store.specs.declared.fault.StoreFault.{StoreFault}
 use Rattle.open_store.specs.declared.fault.StoreFault.TheVariants as stores
 use Rattle.manifest_switch.specs.declared.slot.Found.TheVariants.{Blank}
 use Rattle.manifest_switch.specs.Slots.{current_of}
-use Rattle.open_store.specs.Opening.{IsBadStore}
+use Rattle.open_store.specs.Opened.{IsBadStore}
 use Rattle.closing_machine.specs.Parts.{all_edges}
 use Rattle.query_text.specs.Text.{answers_text, head_text, tally_text}
 use Rattle.query_text.specs.Answered.{AreListedIn, AreRead, IsBlamed}
 use Rattle.graspan_top.specs.Given.{Given, WhereTold}
-use Rattle.graspan_top.specs.Looking.{HasCurrent}
+use Rattle.graspan_top.specs.Looks.{HasCurrent}
 use Rattle.graspan_top.specs.Run.{Accepts, IsGoodGrammar, IsOpenedAs, done_line}
 use Rattle.graspan_top.specs.declared.status.Status.{Status}
 use Rattle.graspan_top.specs.declared.status.Status.TheVariants.{Done, InputFault, ReadFault, DiskFault, WriteFault}

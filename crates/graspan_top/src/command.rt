@@ -1,6 +1,6 @@
 //! The command that words mean.
 ghost use Rattle.std.specs.Prelude.{◌≡◌, ◌≢◌, true, false, ◌⊎◌, ◌≤◌, ℕ, List, Option, Some, IsTrue, OnOk};
-ghost use Rattle.io_edge.specs.Devices.{Rose};
+ghost use Rattle.faults.specs.Counts.{Rose};
 ghost use Rattle.io_edge.specs.View.{NoCountFalls};
 ghost use Rattle.disk_model.specs.Disk.{Contents};
 ghost use Rattle.disk_model.specs.View.{OnlyLooks};
@@ -12,12 +12,12 @@ ghost use Rattle.command_words.specs.Command.{Reading, Said, run as runs, said};
 ghost use Rattle.graspan_top.specs.declared.status.Status.TheVariants.{Done, NoMemory, Words, WriteFault};
 ghost use Rattle.graspan_top.specs.Call.{AreUnread, IsExplained, IsPrinted, LeavesClosure, MayBeStopped, RefusesWords, the_call};
 ghost use Rattle.graspan_top.specs.Command.{IsBegunOf, IsLook, IsTextOf};
-ghost use Rattle.graspan_top.specs.Printing.{Begins, Ends as EndsAs, PrintsFirst, status_of as the_status};
+ghost use Rattle.graspan_top.specs.Printed.{Begins, Ends as EndsAs, PrintsFirst, status_of as the_status};
 
-use crate::looking::{Ends, dump, parts, query};
+use crate::looks::{Ends, dump, parts, query};
 use crate::print::print_fault;
-use crate::readying::Files;
-use crate::running::run;
+use crate::ready_store::Files;
+use crate::run::run;
 use crate::status::Status;
 use command_words::{Command, read_command};
 use disk_model::Disk;

@@ -1,6 +1,6 @@
 //! The grammar file is read and checked.
 ghost use Rattle.std.specs.Prelude.{◌≡◌, ◌≤◌, ℕ, List, IfOk, IfErr};
-ghost use Rattle.io_edge.specs.Devices.{Rose};
+ghost use Rattle.faults.specs.Counts.{Rose};
 ghost use Rattle.io_edge.specs.View.{NoCountFalls};
 ghost use Rattle.graspan_top.specs.Stages.{IsGrammarFile, RefusesGrammar};
 

@@ -4,10 +4,10 @@
 mod command;
 mod grammar_file;
 mod labels;
-mod looking;
+mod looks;
 mod print;
-mod readying;
-mod running;
+mod ready_store;
+mod run;
 mod status;
 
 pub use command::graspan;

@@ -1,9 +1,9 @@
 //! The lines of faults.
 ghost use Rattle.std.specs.Prelude.{◌≡◌, ◌≤◌, ◌+◌, ◌++◌, length};
 ghost use Rattle.arrayvec.specs.ArrayVec.{array_vec_len};
-ghost use Rattle.io_edge.specs.Devices.{Rose};
+ghost use Rattle.faults.specs.Counts.{Rose};
 ghost use Rattle.graspan_top.specs.declared.status.Status.TheVariants.{BadStore, InputFault, OtherInput, Unfinished};
-ghost use Rattle.graspan_top.specs.Printing.{TakesLine, fault_line};
+ghost use Rattle.graspan_top.specs.Printed.{TakesLine, fault_line};
 ghost use Rattle.graspan_top.specs.Names.{file_name as file_name_of, form_name as form_name_of, kind_name as kind_name_of};
 
 use crate::status::Status;

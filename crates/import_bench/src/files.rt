@@ -1,7 +1,7 @@
 //! Files of the system as an import's input and disk. No clause says what they hold.
 ghost use Rattle.std.specs.Prelude.{◌≡◌, ◌≤◌, false, [], length, None, IfOk};
 ghost use Rattle.std.proofs.lemmas.Bool.{false≢true};
-ghost use Rattle.disk_model.specs.Disk.{HasFailed};
+ghost use Rattle.faults.specs.Counts.{HasFailed};
 
 use disk_model::Disk;
 use io_edge::Inputs;

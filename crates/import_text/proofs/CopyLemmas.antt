@@ -4,18 +4,18 @@ use Rattle.std.specs.Prelude.{Option}
 use Rattle.std.specs.List.{sum}
 use Rattle.std.proofs.lemmas.List.{take_all, drop_all}
 use Rattle.graph_words.specs.declared.types.Edge.{Edge}
-use Rattle.edge_text.specs.Feeding.{IsFed}
+use Rattle.edge_text.specs.Feed.{IsFed}
 use Rattle.edge_text.proofs.FeedLemmas.{IsReadTo, reads_start, reads_on}
 use Rattle.io_edge.specs.Devices.{Gives}
 use Rattle.disk_model.specs.Disk.{Contents, Sets, written}
 use Rattle.import_text.specs.Degrees.{AreDegrees}
 use Rattle.import_text.specs.Tally.{Tallied, TakesPiece, TakesEnd}
-use Rattle.io_edge.specs.declared.kinds.InputKind.{InputKind}
+use Rattle.faults.specs.declared.kinds.InputKind.{InputKind}
 use Rattle.edge_text.specs.declared.edges.EdgesFault.{EdgesFault}
 use Rattle.edge_text.specs.declared.edges.EdgesFault.TheVariants as edges
 use Rattle.import_text.specs.declared.fault.TextFault.{TextFault}
 use Rattle.import_text.specs.declared.fault.TextFault.TheVariants as faults
-use Rattle.import_text.specs.Copying.{CopiesBehind, HasCauseIn, copying_fault}
+use Rattle.import_text.specs.Copy.{CopiesBehind, HasCauseIn, copying_fault}
 use Rattle.import_text.proofs.DegreeLemmas.{AreDegrees-none, AreDegrees-then}
 
 -- bytes that are written at the end

@@ -6,7 +6,7 @@ use Rattle.std.proofs.lemmas.List.Sums.{sum_by-append}
 use Rattle.std.proofs.lemmas.List.Elements.{All-head, All-tail}
 use Rattle.graph_words.specs.declared.types.Edge.{Edge}
 use Rattle.edge_text.specs.EdgesText.{vertex_count_of}
-use Rattle.edge_text.specs.Feeding.{IsNumbered}
+use Rattle.edge_text.specs.Feed.{IsNumbered}
 use Rattle.import_text.specs.Degrees.{degree, AreDegrees, Counted}
 
 pub vertex_count_of-append : (xs ys : List Edge) → vertex_count_of (xs ++ ys) ≡ max (vertex_count_of xs) (vertex_count_of ys)

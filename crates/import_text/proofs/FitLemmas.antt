@@ -18,7 +18,7 @@ use Rattle.edge_text.specs.EdgesText.{edges_of, vertex_count_of}
 use Rattle.edge_text.proofs.GraphLemmas.{IsGraph-with_count}
 use Rattle.partition_file.specs.Spelling.{Part, IsPart, Fits, FitsEdge}
 use Rattle.import_text.specs.Given.{IsFrom, IsAboveIn, IsLoopIn}
-use Rattle.import_text.specs.Reading.{GathersCopy, GivesPart, expect_given}
+use Rattle.import_text.specs.GivenPart.{GathersCopy, GivesPart, expect_given}
 
 -- ---- labels
 up_below : (rules : List Rule) (k : ℕ) {b a : LabelId} → All (λ r. r.left.0 < k) rules → b.0 < k → IsUp rules b a → a.0 < k

@@ -9,8 +9,8 @@ use Rattle.io_edge.specs.Lines.{lines}
 use Rattle.edge_text.specs.EdgesText.{ReadsEdges, edges_of, vertex_count_of}
 use Rattle.edge_text.proofs.AgainLemmas.{table_stays}
 use Rattle.import_text.specs.Given.{AddsJust, IsAboveIn}
-use Rattle.import_text.specs.Gathering.{Gathered}
-use Rattle.import_text.specs.Reading.{GathersFile, GathersCopy, IsGoodCopy}
+use Rattle.import_text.specs.Gathered.{Gathered}
+use Rattle.import_text.specs.GivenPart.{GathersFile, GathersCopy, IsGoodCopy}
 
 -- a reader at its start
 pub record IsStart (lo hi : ℕ) (g : Gathered) : Type 0 where

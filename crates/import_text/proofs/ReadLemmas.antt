@@ -2,18 +2,18 @@
 use Rattle.std.proofs.Common.{◌≡◌, ◌≢◌, inl, ℕ, ◌≤◌, List, [], ◌++◌, length, take, refl, ◌∙◌, arith, subst}
 use Rattle.graph_words.specs.declared.types.Edge.{Edge}
 use Rattle.normal_law.specs.Closure.{Normal}
-use Rattle.io_edge.specs.declared.kinds.InputKind.{InputKind}
+use Rattle.faults.specs.declared.kinds.InputKind.{InputKind}
 use Rattle.io_edge.specs.Devices.{Gives}
 use Rattle.edge_text.specs.declared.edges.EdgesFault.{EdgesFault}
 use Rattle.edge_text.specs.declared.edges.EdgesFault.TheVariants as edges
-use Rattle.edge_text.specs.Feeding.{IsFed}
+use Rattle.edge_text.specs.Feed.{IsFed}
 use Rattle.edge_text.proofs.FeedLemmas.{IsReadTo, reads_start, reads_on}
 use Rattle.disk_model.specs.Disk.{Contents, Reads}
 use Rattle.disk_model.specs.Looks.{Looks}
 use Rattle.import_text.specs.declared.fault.TextFault.TheVariants as faults
 use Rattle.import_text.specs.Given.{AddsJust, IsAboveIn}
-use Rattle.import_text.specs.Gathering.{Gathered, Gathers, GathersPiece, GathersEnd}
-use Rattle.import_text.specs.Reading.{reading_fault, GathersFile, HasCauseOn}
+use Rattle.import_text.specs.Gathered.{Gathered, Gathers, GathersPiece, GathersEnd}
+use Rattle.import_text.specs.GivenPart.{reading_fault, GathersFile, HasCauseOn}
 use Rattle.import_text.proofs.DegreeLemmas.{vertex_count_of-append}
 use Rattle.import_text.proofs.GivenLemmas.{AddsJust-then, above_none, above_append}
 

@@ -4,7 +4,7 @@ use Rattle.std.specs.Prelude.{All}
 use Rattle.std.proofs.lemmas.List.Elements.{All-weaker}
 use Rattle.graph_words.specs.declared.types.Edge.{Edge}
 use Rattle.edge_text.specs.EdgesText.{ReadsEdges}
-use Rattle.edge_text.specs.Feeding.{EdgeFeed, IsFed, AddsEdges, IsNumbered}
+use Rattle.edge_text.specs.Feed.{EdgeFeed, IsFed, AddsEdges, IsNumbered}
 use Rattle.import_text.specs.Degrees.{Counted}
 use Rattle.import_text.specs.Tally.{Tallied, TakesPiece, TakesEnd}
 use Rattle.import_text.proofs.DegreeLemmas.{few_numbered}

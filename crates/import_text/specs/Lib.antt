@@ -1,6 +1,6 @@
 pub mod Degrees
 pub mod Tally
-pub mod Copying
+pub mod Copy
 pub mod Given
-pub mod Gathering
-pub mod Reading
+pub mod Gathered
+pub mod GivenPart

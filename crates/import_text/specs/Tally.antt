@@ -2,7 +2,7 @@
 use Rattle.std.specs.Prelude.{◌≡◌, ℕ, ◌+◌, ◌≤◌, true, List, ◌++◌, length}
 use Rattle.graph_words.specs.declared.types.Edge.{Edge}
 use Rattle.edge_text.specs.EdgesText.{ReadsEdges}
-use Rattle.edge_text.specs.Feeding.{EdgeFeed, IsFed}
+use Rattle.edge_text.specs.Feed.{EdgeFeed, IsFed}
 use Rattle.import_text.specs.Degrees.{Counted}
 use Rattle.edge_text.specs.declared.feed.TheConstants.{LONGEST_TEXT}
 

@@ -50,7 +50,7 @@ impl From<AllocError> for TextFault {
 }
 
 impl From<EdgesFault> for TextFault {
-    ghost use Rattle.import_text.specs.Copying.{copying_fault};
+    ghost use Rattle.import_text.specs.Copy.{copying_fault};
 
     ghost from_gives = { λ fault e. e ≡ copying_fault fault };
 

@@ -1,17 +1,17 @@
 //! Edge files brought to a disk: read once, checked and copied, and read again from the copy for one partition at a time.
 #![tactic(auto)]
 
-mod copying;
+mod copy;
 mod degrees;
 mod fault;
-mod gathering;
+mod gathered;
 mod given;
 mod laws;
-mod parting;
-mod reading;
+mod part;
+mod given_part;
 mod tally;
 
-pub use copying::{Copied, copy_edges};
+pub use copy::{Copied, copy_edges};
 pub use fault::TextFault;
 pub use laws::copies_are_good;
-pub use reading::given_edges;
+pub use given_part::given_edges;

@@ -1,11 +1,11 @@
 //! A reader of an edge file that counts edges by their sources, and keeps none.
 ghost use Rattle.std.specs.Prelude.{◌≡◌, ◌≢◌, ◌<◌, ◌≤◌, ◌+◌, ◌^◌, ◌++◌, ℕ, List, [], true, IfOk, OnOk, IfErr, Some, length};
 ghost use Rattle.std.specs.List.{sum};
-ghost use Rattle.io_edge.specs.declared.kinds.InputKind.{InputKind as AKind};
+ghost use Rattle.faults.specs.declared.kinds.InputKind.{InputKind as AKind};
 ghost use Rattle.graph_words.specs.declared.types.Edge.{Edge as AnEdge};
 ghost use Rattle.graph_words.specs.Text.{distinct};
 ghost use Rattle.edge_text.specs.EdgesText.{edges_fault};
-ghost use Rattle.edge_text.specs.Feeding.{IsFed};
+ghost use Rattle.edge_text.specs.Feed.{IsFed};
 ghost use Rattle.import_text.specs.Tally.{Tallied, TakesPiece, TakesEnd};
 
 use crate::degrees::Degrees;

@@ -4,7 +4,8 @@ use Rattle.std.specs.Io.KnownBytes.{Appends}
 use Rattle.std.proofs.KnownBytes.{Appends-trans}
 use Rattle.std.proofs.Math.Seq.{take-append-add}
 use Rattle.std.proofs.lemmas.List.{take-append-le}
-use Rattle.io_edge.specs.Devices.{HasCause, Rose, Takes, AppendsPrefix}
+use Rattle.faults.specs.Counts.{HasCause, Rose}
+use Rattle.io_edge.specs.Devices.{Takes, AppendsPrefix}
 
 -- a prefix of the first piece is one of both
 pub AppendsPrefix-more : (a b : Option (List ℕ)) (first next : List ℕ) → AppendsPrefix a b first → AppendsPrefix a b (first ++ next)

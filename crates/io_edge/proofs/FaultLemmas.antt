@@ -4,8 +4,8 @@ use Rattle.std.specs.Prelude.{All, nat_lt, Option}
 use Rattle.std.proofs.lemmas.Bool.Decides.{nat_tests}
 use Rattle.std.proofs.lemmas.List.Elements.{All-nil, All-cons}
 use Rattle.graph_words.specs.Text.{words, is_skipped}
-use Rattle.io_edge.specs.declared.kinds.InputKind.{InputKind}
-use Rattle.io_edge.specs.declared.kinds.InputKind.TheVariants.{LineTooLong, TooLong}
+use Rattle.faults.specs.declared.kinds.InputKind.{InputKind}
+use Rattle.faults.specs.declared.kinds.InputKind.TheVariants.{LineTooLong, TooLong}
 use Rattle.io_edge.specs.Lines.{is_line_feed, segments, line, without_end}
 use Rattle.io_edge.specs.FirstFault.{Fault, fault_or, line_fault, with_line, first_fault, HasFaultAnyway}
 use Rattle.io_edge.proofs.SegmentLemmas.{HasNoFeed, segments_at, segments_long}

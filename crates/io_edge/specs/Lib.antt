@@ -1,8 +1,8 @@
 pub mod Devices
 pub mod View
 pub mod Lines
-pub mod Cutting
+pub mod Cuts
 pub mod FirstFault
 pub mod MemFiles
 pub mod MemBytes
-pub mod Reading
+pub mod WholeRead

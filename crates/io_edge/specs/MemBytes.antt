@@ -1,6 +1,6 @@
 -- Printed bytes in memory, and the count of the calls that print them.
 use Rattle.std.specs.Prelude.{ℕ, Bool, List, ◌++◌, if◌then◌else◌}
-use Rattle.io_edge.specs.Devices.{one_more}
+use Rattle.faults.specs.Counts.{one_more}
 
 -- the bytes taken, the numbers of the calls that fail, and how many calls there were and how many of them failed
 pub record BytesTaken : Type 0 where

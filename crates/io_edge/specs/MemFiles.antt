@@ -1,7 +1,7 @@
 -- Files in memory, and the count of the calls that read them.
 use Rattle.std.specs.Prelude.{ℕ, Bool, ◌-◌, min, List, [], length, Option, Some, None, find, if◌then◌else◌}
 use Rattle.std.specs.Option.{option_map}
-use Rattle.io_edge.specs.Devices.{one_more}
+use Rattle.faults.specs.Counts.{one_more}
 use Rattle.std.specs.Str.{bytes_eq}
 
 -- a name, and the bytes of its file

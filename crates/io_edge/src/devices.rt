@@ -1,6 +1,7 @@
 //! The outside as traits: files that are read by name, and a sink that takes bytes.
 ghost use Rattle.std.specs.Prelude.{◌≡◌, ◌+◌, ◌<◌, ◌≤◌, ◌^◌, ℕ, List, Option, Some, length, IfOk};
-ghost use Rattle.io_edge.specs.Devices.{Gives, HasCause, Takes};
+ghost use Rattle.faults.specs.Counts.{HasCause};
+ghost use Rattle.io_edge.specs.Devices.{Gives, Takes};
 
 /// A call of the outside has failed. The count of faults of what was called says so too.
 #[derive(Clone, Copy, Debug, PartialEq, Eq)]

@@ -4,7 +4,6 @@
 mod buffer;
 mod cutter;
 mod devices;
-mod kinds;
 mod lines;
 mod mem_inputs;
 mod mem_sink;
@@ -19,13 +18,13 @@ mod word_list;
 
 pub use cutter::LineCutter;
 pub use devices::{Failed, Inputs, Sink};
-pub use kinds::{InputFile, InputKind};
+pub use faults::{InputFile, InputKind, LineFault};
 pub use lines::{line_of, lines_join, long_texts_have_faults, next_segment, without_line_feed};
 pub use mem_inputs::MemInputs;
 pub use mem_sink::{MemSink, NullSink};
 pub use named_bytes::NamedBytes;
 pub use out_sink::OutSink;
-pub use pieces::{CutFault, lines_of_pieces};
+pub use pieces::lines_of_pieces;
 pub use print::write_line;
 pub use step::{CutStep, Fed, Phase};
 pub use sure_inputs::SureInputs;

@@ -1,6 +1,7 @@
 //! Inputs in memory, of which chosen calls fail.
 ghost use Rattle.std.specs.Prelude.{◌≡◌, ◌⊎◌, ◌+◌, ◌-◌, ◌<◌, ◌≤◌, ◌^◌, ◌↔◌, ℕ, List, [], Option, Some, None, length, Contains, IfOk, IsErr, is_ok};
-ghost use Rattle.io_edge.specs.Devices.{Gives, HasCause};
+ghost use Rattle.faults.specs.Counts.{HasCause};
+ghost use Rattle.io_edge.specs.Devices.{Gives};
 ghost use Rattle.io_edge.specs.MemFiles.{first_named, after_read, read_len};
 
 use crate::named_bytes::{NamedBytes, copy_part, find_file};

@@ -1,6 +1,7 @@
 //! Sinks in memory: one that keeps what it takes, and one that drops it.
 ghost use Rattle.std.specs.Prelude.{◌≡◌, [], Some, None, Contains, IsErr, IsOk, is_ok};
-ghost use Rattle.io_edge.specs.Devices.{HasCause, Takes};
+ghost use Rattle.faults.specs.Counts.{HasCause};
+ghost use Rattle.io_edge.specs.Devices.{Takes};
 ghost use Rattle.io_edge.specs.MemBytes.{after_write};
 
 use crate::{Failed, Sink};

@@ -1,6 +1,7 @@
 //! A sink over a writer of std.
 ghost use Rattle.std.specs.Prelude.{◌≡◌, ◌+◌, ◌-◌, ◌^◌, ◌≤◌, min, drop, length, is_ok, if◌then◌else◌};
-ghost use Rattle.io_edge.specs.Devices.{HasCause, Takes, one_more};
+ghost use Rattle.faults.specs.Counts.{HasCause, one_more};
+ghost use Rattle.io_edge.specs.Devices.{Takes};
 
 use crate::{Failed, Sink};
 use std::io::Write;

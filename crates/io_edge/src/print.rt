@@ -1,6 +1,7 @@
 //! Lines, as a sink takes them.
 ghost use Rattle.std.specs.Prelude.{◌++◌, ◌∷◌, []};
-ghost use Rattle.io_edge.specs.Devices.{HasCause, Takes};
+ghost use Rattle.faults.specs.Counts.{HasCause};
+ghost use Rattle.io_edge.specs.Devices.{Takes};
 
 use crate::{Failed, Sink};
 

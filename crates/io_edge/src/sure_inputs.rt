@@ -1,6 +1,7 @@
 //! Inputs in memory that never fail.
 ghost use Rattle.std.specs.Prelude.{◌≡◌, ◌+◌, ◌-◌, ◌<◌, ◌≤◌, ◌^◌, ℕ, List, Option, Some, length, IfOk, IsOk};
-ghost use Rattle.io_edge.specs.Devices.{Gives, HasCause};
+ghost use Rattle.faults.specs.Counts.{HasCause};
+ghost use Rattle.io_edge.specs.Devices.{Gives};
 ghost use Rattle.io_edge.specs.MemFiles.{first_named, bytes_or_none, sure_bytes, read_len};
 
 use crate::named_bytes::{NamedBytes, copy_part, find_file};

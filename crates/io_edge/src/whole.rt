@@ -1,7 +1,7 @@
 //! A whole input, read piece by piece.
 ghost use Rattle.std.specs.Prelude.{◌≡◌, ◌+◌, ◌<◌, ◌≤◌, ◌^◌, ℕ, List, Option, Some, length, vec_len, IfOk, IsErrOf};
-ghost use Rattle.io_edge.specs.Devices.{Rose};
-ghost use Rattle.io_edge.specs.Reading.{ReadsWhole};
+ghost use Rattle.faults.specs.Counts.{Rose};
+ghost use Rattle.io_edge.specs.WholeRead.{ReadsWhole};
 ghost use Rattle.io_edge.specs.declared.whole.ReadFault.TheVariants.{ReadFailed, NoMemory};
 ghost use Rattle.io_edge.specs.View.{NoCountFalls};
 

@@ -5,7 +5,7 @@ use Rattle.std.proofs.lemmas.List.{length-drop, get_or_past}
 use Rattle.manifest_codec.specs.declared.types.Manifest.{Manifest}
 use Rattle.manifest_codec.specs.declared.types.ManifestFault.{ManifestFault}
 use Rattle.manifest_codec.specs.Spelling.{Fits, Spells}
-use Rattle.manifest_codec.specs.Reading.{Read, head_at, front_at, body_at, counted, reading, manifest_in}
+use Rattle.manifest_codec.specs.FieldsRead.{Read, head_at, front_at, body_at, counted, reading, manifest_in}
 use Rattle.manifest_codec.proofs.FieldLaws.{IsBytes}
 use Rattle.manifest_codec.proofs.BodyLaws.{again_at, ok_found, ok_only, err_only}
 use Rattle.manifest_codec.proofs.Words.{kept_from_words, words_from_kept}

@@ -6,15 +6,15 @@ use Rattle.std.proofs.lemmas.List.{drop_at, take-append-drop, length-append, len
 use Rattle.std.proofs.lemmas.Nat.{le_bytes_2, le_bytes_4, le_bytes_8}
 use Rattle.byteorder.specs.Endian.{little_number, little_bytes}
 use Rattle.byteorder.specs.Numbers.{little_from-append, little_number-reads_back, little_from-lt, length-bytes_low_first}
-use Rattle.disk_model.specs.declared.form_kind.FormKind.{FormKind}
-use Rattle.disk_model.specs.declared.form_kind.FormKind.TheVariants.{Short, BadMagic, BadNumber, BadParts, BadFile, BadMark}
+use Rattle.faults.specs.declared.form_kind.FormKind.{FormKind}
+use Rattle.faults.specs.declared.form_kind.FormKind.TheVariants.{Short, BadMagic, BadNumber, BadParts, BadFile, BadMark}
 use Rattle.manifest_codec.specs.declared.types.Broken.{Broken}
 use Rattle.manifest_codec.specs.declared.types.Head.{Head}
 use Rattle.manifest_codec.specs.declared.types.Version.{Version}
 use Rattle.manifest_codec.specs.declared.types.Version.TheVariants.{First}
 use Rattle.manifest_codec.specs.declared.types.PartEntry.{PartEntry}
 use Rattle.manifest_codec.specs.Rules.{is_magic, is_generation, is_round, is_vertices, is_grammar_len, is_edges_len, is_end, is_file, is_newest, magic_of}
-use Rattle.manifest_codec.specs.Reading.{◌>>=◌, number_at, field_at, broken, head_at, part_at}
+use Rattle.manifest_codec.specs.FieldsRead.{◌>>=◌, number_at, field_at, broken, head_at, part_at}
 use Rattle.manifest_codec.specs.Spelling.{head_bytes, part_bytes}
 use Rattle.manifest_codec.proofs.Kept.{HeadFits}
 

@@ -5,14 +5,14 @@ use Rattle.std.proofs.lemmas.Bool.{ltb-false, le-ltb}
 use Rattle.std.proofs.lemmas.List.{length_push, append-nil, take_at, drop_at, take-append-drop, length-append, length-take}
 use Rattle.std.proofs.lemmas.List.Concat.{flat_map-cons}
 use Rattle.byteorder.specs.Endian.{little_bytes}
-use Rattle.disk_model.specs.declared.form_kind.FormKind.{FormKind}
-use Rattle.disk_model.specs.declared.form_kind.FormKind.TheVariants.{Short, BadLabel, RepeatedLabel}
+use Rattle.faults.specs.declared.form_kind.FormKind.{FormKind}
+use Rattle.faults.specs.declared.form_kind.FormKind.TheVariants.{Short, BadLabel, RepeatedLabel}
 use Rattle.manifest_codec.specs.declared.types.Head.{Head}
 use Rattle.manifest_codec.specs.declared.types.PartEntry.{PartEntry}
 use Rattle.graph_words.specs.Text.{is_label_word}
 use Rattle.label_table.specs.Names.{has_name}
 use Rattle.manifest_codec.specs.Rules.{at_most, is_end}
-use Rattle.manifest_codec.specs.Reading.{◌>>=◌, Read, field_at, broken, label_at, labels_at, part_at, parts_at, cells_at}
+use Rattle.manifest_codec.specs.FieldsRead.{◌>>=◌, Read, field_at, broken, label_at, labels_at, part_at, parts_at, cells_at}
 use Rattle.manifest_codec.specs.Spelling.{label_bytes, part_bytes, parts_bytes}
 use Rattle.manifest_codec.proofs.Kept.{LabelsFit, PartsFit, CellsFit}
 use Rattle.manifest_codec.proofs.FieldLaws.{IsBytes, IsBytes-drop, Takes, Takes-then, wide8, step_ok, ok_is, guard_ok, field_takes, field_again, part_takes, part_again}

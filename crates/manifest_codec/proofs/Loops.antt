@@ -3,13 +3,13 @@ use Rattle.std.proofs.Common.{◌≡◌, ℕ, suc, ◌-◌, ◌+◌, ◌≤◌, 
 use Rattle.std.proofs.Math.Seq.{drop-cons}
 use Rattle.std.proofs.lemmas.List.{drop_all}
 use Rattle.std.proofs.lemmas.Bool.{lt-ltb, le-ltb}
-use Rattle.disk_model.specs.declared.form_kind.FormKind.{FormKind}
+use Rattle.faults.specs.declared.form_kind.FormKind.{FormKind}
 use Rattle.manifest_codec.specs.declared.types.Head.{Head}
 use Rattle.manifest_codec.specs.declared.types.PartEntry.{PartEntry}
 use Rattle.manifest_codec.specs.declared.types.FieldError.{FieldError}
 use Rattle.manifest_codec.specs.declared.types.FieldError.TheVariants as errors
 use Rattle.manifest_codec.specs.Spelling.{part_bytes, parts_bytes}
-use Rattle.manifest_codec.specs.Reading.{Read, Fails, number_at, broken, label_at, labels_at, part_at, parts_at, cells_at}
+use Rattle.manifest_codec.specs.FieldsRead.{Read, Fails, number_at, broken, label_at, labels_at, part_at, parts_at, cells_at}
 
 pub labels_go_on : (count i : ℕ) (before : List (List ℕ)) (bytes : List ℕ) (after : List (List ℕ)) (behind : List ℕ) (total : Read (List (List ℕ))) → i < count → label_at before bytes ≡ Ok (after, behind) → labels_at (count - i) before bytes ≡ total → labels_at (count - (i + 1)) after behind ≡ total
 unfolding labels_at

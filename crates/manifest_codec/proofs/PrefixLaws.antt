@@ -6,8 +6,8 @@ use Rattle.std.proofs.lemmas.Bool.Decides.{nat_tests}
 use Rattle.std.proofs.lemmas.List.{length-append, length-drop, take-append-le, drop-append-le}
 use Rattle.byteorder.specs.Endian.{little_number}
 use Rattle.byteorder.specs.Numbers.{little_from-append}
-use Rattle.disk_model.specs.declared.form_kind.FormKind.{FormKind}
-use Rattle.disk_model.specs.declared.form_kind.FormKind.TheVariants.{Short, BadMagic, BadNumber, BadLabel, RepeatedLabel}
+use Rattle.faults.specs.declared.form_kind.FormKind.{FormKind}
+use Rattle.faults.specs.declared.form_kind.FormKind.TheVariants.{Short, BadMagic, BadNumber, BadLabel, RepeatedLabel}
 use Rattle.graph_words.specs.Text.{is_label_word}
 use Rattle.label_table.specs.Names.{has_name}
 use Rattle.manifest_codec.specs.declared.types.Broken.{Broken}
@@ -15,7 +15,7 @@ use Rattle.manifest_codec.specs.declared.types.Head.{Head}
 use Rattle.manifest_codec.specs.declared.types.PartEntry.{PartEntry}
 use Rattle.manifest_codec.specs.declared.types.Manifest.{Manifest}
 use Rattle.manifest_codec.specs.declared.types.ManifestFault.{ManifestFault}
-use Rattle.manifest_codec.specs.Reading.{◌>>=◌, Read, broken, number_at, field_at, head_at, label_at, labels_at, part_at, parts_at, cells_at, front_at, table_at, body_at, counted}
+use Rattle.manifest_codec.specs.FieldsRead.{◌>>=◌, Read, broken, number_at, field_at, head_at, label_at, labels_at, part_at, parts_at, cells_at, front_at, table_at, body_at, counted}
 use Rattle.manifest_codec.specs.Rules.{newest_version, is_magic, is_generation}
 use Rattle.manifest_codec.proofs.FieldLaws.{step_ok, test_ok, ok_is}
 use Rattle.manifest_codec.specs.Prefix.{IsCut, Settles}

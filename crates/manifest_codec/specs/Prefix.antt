@@ -1,9 +1,9 @@
 -- What bytes say is settled once they don't end within a field.
 use Rattle.std.specs.Prelude.{◌≡◌, ◌⊎◌, ℕ, List, ◌++◌, Result, Ok, Err}
-use Rattle.disk_model.specs.declared.form_kind.FormKind.TheVariants.{Short}
+use Rattle.faults.specs.declared.form_kind.FormKind.TheVariants.{Short}
 use Rattle.manifest_codec.specs.declared.types.Manifest.{Manifest}
 use Rattle.manifest_codec.specs.declared.types.ManifestFault.{ManifestFault}
-use Rattle.manifest_codec.specs.Reading.{reading}
+use Rattle.manifest_codec.specs.FieldsRead.{reading}
 
 -- the bytes end within a field
 abbrev pub IsCut : Result (Manifest × ℕ) ManifestFault → Type 0

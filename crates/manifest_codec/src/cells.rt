@@ -1,7 +1,7 @@
 ghost use Rattle.std.specs.Prelude.{◌≡◌, ◌≤◌, ◌<◌, ◌-◌, ◌*◌, ◌++◌, ◌∷◌, ℕ, List, [], length, map, sum, replicate, All, IfOk, OnOk};
 ghost use Rattle.std.specs.List.{flat_map};
 ghost use Rattle.manifest_codec.specs.Rules;
-ghost use Rattle.manifest_codec.specs.Reading.{Gives, cells_at};
+ghost use Rattle.manifest_codec.specs.FieldsRead.{Gives, cells_at};
 
 use crate::fields::{broken_at, u64_at};
 use crate::types::{FieldError, PartEntry};

@@ -4,7 +4,7 @@ ghost use Rattle.manifest_codec.specs.declared.types.FieldError.{FieldError};
 ghost use Rattle.manifest_codec.specs.declared.types.Version.TheVariants.{First};
 ghost use Rattle.manifest_codec.specs.Rules as place;
 ghost use Rattle.manifest_codec.specs.Rules.{is_magic, magic_of, at_most};
-ghost use Rattle.manifest_codec.specs.Reading.{Gives, Read, number_at, field_at, head_at, broken};
+ghost use Rattle.manifest_codec.specs.FieldsRead.{Gives, Read, number_at, field_at, head_at, broken};
 
 use crate::types::{Broken, FieldError, Head, Version};
 use byteorder::{ByteOrder, LittleEndian};

@@ -1,7 +1,7 @@
 ghost use Rattle.std.specs.Prelude.{◌≡◌, ◌≤◌, ◌<◌, ◌++◌, ◌∷◌, ℕ, List, [], length, not};
 ghost use Rattle.graph_words.specs.Text.{is_label_word};
 ghost use Rattle.label_table.specs.Names.{has_name};
-ghost use Rattle.manifest_codec.specs.Reading.{Gives, label_at, labels_at};
+ghost use Rattle.manifest_codec.specs.FieldsRead.{Gives, label_at, labels_at};
 
 use crate::fields::broken_at;
 use crate::types::FieldError;

@@ -5,10 +5,10 @@ ghost use Rattle.manifest_codec.specs.declared.types.Version.{Version as AVersio
 ghost use Rattle.manifest_codec.specs.declared.types.Version.TheVariants.{First};
 ghost use Rattle.manifest_codec.specs.Rules.{magic_of, newest_version};
 ghost use Rattle.manifest_codec.specs.Spelling.{Fits, longest, spelling, Spells};
-ghost use Rattle.manifest_codec.specs.Reading.{Answers, reading, manifest_in};
+ghost use Rattle.manifest_codec.specs.FieldsRead.{Answers, reading, manifest_in};
 
-use crate::decoding::decode;
-use crate::encoding::encode;
+use crate::decode::decode;
+use crate::encode::encode;
 use crate::types::{Manifest, ManifestError};
 use std::alloc::Global;
 

@@ -1,7 +1,7 @@
 ghost use Rattle.std.specs.Prelude.{◌≡◌, ◌≤◌, ◌<◌, ◌==◌, ℕ, List, [], length};
 ghost use Rattle.std.specs.List.{list_any};
 ghost use Rattle.manifest_codec.specs.Rules;
-ghost use Rattle.manifest_codec.specs.Reading.{Gives, part_at, parts_at};
+ghost use Rattle.manifest_codec.specs.FieldsRead.{Gives, part_at, parts_at};
 
 use crate::fields::{broken_at, u32_at, u64_at};
 use crate::types::{FieldError, Head, PartEntry, PartList};

@@ -5,7 +5,7 @@ use Rattle.std.proofs.lemmas.List.{ext_get_or, take_all, take-append-le, take-ap
 use Rattle.disk_model.specs.Disk.{written}
 use Rattle.manifest_codec.specs.declared.types.Manifest.{Manifest}
 use Rattle.manifest_codec.specs.declared.types.ManifestFault.{ManifestFault}
-use Rattle.manifest_codec.specs.Reading.{reading, body_at, front_at, head_at}
+use Rattle.manifest_codec.specs.FieldsRead.{reading, body_at, front_at, head_at}
 use Rattle.manifest_codec.specs.Rules.{newest_version}
 use Rattle.manifest_codec.specs.Spelling.{Fits, Spells, spelling}
 use Rattle.manifest_codec.specs.Prefix.{IsCut, Settles}

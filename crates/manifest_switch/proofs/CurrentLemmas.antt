@@ -7,7 +7,7 @@ use Rattle.manifest_switch.specs.declared.slot.Slot.{Slot}
 use Rattle.manifest_switch.specs.declared.slot.Slot.TheVariants.{Zero, One}
 use Rattle.manifest_switch.specs.declared.slot.Found.{Found}
 use Rattle.manifest_switch.specs.declared.slot.Found.TheVariants.{At}
-use Rattle.disk_model.specs.declared.form_kind.FormKind.TheVariants.{Generations}
+use Rattle.faults.specs.declared.form_kind.FormKind.TheVariants.{Generations}
 use Rattle.manifest_switch.specs.declared.slot.OpenFault.{OpenFault}
 use Rattle.manifest_switch.specs.declared.slot.OpenFault.TheVariants.{DiskFault, BadStore, NoMemory}
 use Rattle.manifest_switch.specs.Slots.{chosen, later_of, bad_body, next_generation}

@@ -1,7 +1,7 @@
 -- What reading the slots answers.
 use Rattle.std.specs.Prelude.{◌≡◌, ℕ, ◌+◌, true, false, List, length, Option, Some, None, Result, Ok, Err}
-use Rattle.disk_model.specs.Disk.{Rose}
-use Rattle.disk_model.specs.declared.form_kind.FormKind.TheVariants.{Short}
+use Rattle.faults.specs.Counts.{Rose}
+use Rattle.faults.specs.declared.form_kind.FormKind.TheVariants.{Short}
 use Rattle.manifest_codec.specs.declared.types.Manifest.{Manifest}
 use Rattle.manifest_codec.specs.declared.types.ManifestFault.{ManifestFault}
 use Rattle.manifest_switch.specs.declared.slot.Slot.{Slot}

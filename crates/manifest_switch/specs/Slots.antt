@@ -2,10 +2,10 @@
 use Rattle.std.specs.Prelude.{◌≡◌, ◌≢◌, ℕ, ◌+◌, ◌%◌, ◌<◌, Bool, false, ◌&&◌, ◌||◌, nat_lt, nat_eq, if◌then◌else◌}
 use Rattle.std.specs.Prelude.{◌==◌, List, [], ◌∷◌, length, drop, slice_index, Option, Some, None, Result, Ok, Err}
 use Rattle.disk_model.specs.Disk.{Contents, written}
-use Rattle.disk_model.specs.declared.form_kind.FormKind.TheVariants.{Generations}
+use Rattle.faults.specs.declared.form_kind.FormKind.TheVariants.{Generations}
 use Rattle.manifest_codec.specs.declared.types.Manifest.{Manifest}
 use Rattle.manifest_codec.specs.declared.types.ManifestFault.{ManifestFault}
-use Rattle.manifest_codec.specs.Reading.{reading}
+use Rattle.manifest_codec.specs.FieldsRead.{reading}
 use Rattle.manifest_switch.specs.declared.slot.Slot.{Slot}
 use Rattle.manifest_switch.specs.declared.slot.Slot.TheVariants.{Zero, One}
 use Rattle.manifest_switch.specs.declared.slot.Found.{Found}

@@ -1,6 +1,7 @@
 -- What the parts of a commit make of an image, and what they ask of it.
 use Rattle.std.specs.Prelude.{◌≡◌, ◌≢◌, ◌⊎◌, ℕ, false, Option, Some, None, Result, Ok, Err}
-use Rattle.disk_model.specs.Disk.{Contents, Rose}
+use Rattle.faults.specs.Counts.{Rose}
+use Rattle.disk_model.specs.Disk.{Contents}
 use Rattle.disk_model.specs.Crash.{From}
 use Rattle.manifest_codec.specs.declared.types.Manifest.{Manifest}
 use Rattle.manifest_switch.specs.declared.slot.Slot.{Slot}

@@ -1,7 +1,8 @@
 //! The parts of a commit: a gate is closed, a body written behind it, and the gate opened. Each ends with a sync.
 ghost use Rattle.std.specs.Prelude.{◌≡◌, ◌≢◌, ◌⊎◌, ◌+◌, ◌%◌, ◌<◌, ◌∷◌, [], ℕ, Bool, IsTrue, true, false, length};
 ghost use Rattle.std.specs.Prelude.{slice_index, Option, Some, None, OnOk, IfOk};
-ghost use Rattle.disk_model.specs.Disk.{Contents, HasCause, Sets, written};
+ghost use Rattle.faults.specs.Counts.{HasCause};
+ghost use Rattle.disk_model.specs.Disk.{Contents, Sets, written};
 ghost use Rattle.disk_model.specs.View.{IsDurable, LeavesBy, OnlyLooks};
 ghost use Rattle.manifest_switch.specs.Slots.{file_of, is_loose, with_closed_gate, IsClosed};
 ghost use Rattle.manifest_switch.specs.Steps.{Keeps, MayClose, IsReady, Opens};

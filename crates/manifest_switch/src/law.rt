@@ -1,7 +1,7 @@
 //! Which slot is current, case by case.
 ghost use Rattle.std.specs.Prelude.{◌≡◌, ◌↔◌, ◌⊎◌, ℕ, List, false, Option, Some, None, Result, Ok, Err};
 ghost use Rattle.disk_model.specs.Disk.{Contents};
-ghost use Rattle.disk_model.specs.declared.form_kind.FormKind.TheVariants.{Generations};
+ghost use Rattle.faults.specs.declared.form_kind.FormKind.TheVariants.{Generations};
 ghost use Rattle.manifest_codec.specs.declared.types.Manifest.{Manifest};
 ghost use Rattle.manifest_codec.specs.declared.types.ManifestFault.{ManifestFault};
 ghost use Rattle.manifest_switch.specs.declared.slot.Slot.{Slot};

@@ -1,8 +1,8 @@
 -- The copy of a grammar's text under another manifest.
 use Rattle.std.proofs.Common.{◌≡◌, ℕ, ◌<◌, ◌≤◌, List, length, take, refl, sym, ap, subst, ◌∙◌, arith, length-take, take-take}
 use Rattle.graph_words.specs.declared.types.Rule.{Rule}
-use Rattle.disk_model.specs.declared.form_kind.FormKind.{FormKind}
-use Rattle.disk_model.specs.declared.form_kind.FormKind.TheVariants.{Short}
+use Rattle.faults.specs.declared.form_kind.FormKind.{FormKind}
+use Rattle.faults.specs.declared.form_kind.FormKind.TheVariants.{Short}
 use Rattle.grammar_norm.specs.GrammarText.{ReadsGrammar}
 use Rattle.manifest_codec.specs.declared.types.Manifest.{Manifest}
 use Rattle.manifest_switch.specs.declared.slot.Slot.{Slot}

@@ -1,8 +1,8 @@
 pub mod Tallies
-pub mod Tallying
+pub mod TallySteps
 pub mod Places
 pub mod Streams
-pub mod Looking
+pub mod Looks
 pub mod Parts
 pub mod Causes
 pub mod Freeness

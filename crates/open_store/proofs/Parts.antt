@@ -2,17 +2,17 @@
 use Rattle.std.proofs.Common.{◌≡◌, ℕ, ◌+◌, ◌^◌, ◌<◌, ◌≤◌, List, [], ◌++◌, length, inr, refl, sym, ap, subst, ◌∙◌, arith}
 use Rattle.std.specs.Prelude.{Bool, IsTrue, Some}
 use Rattle.graph_words.specs.declared.types.Born.{Born}
-use Rattle.disk_model.specs.declared.form_kind.FormKind.{FormKind}
-use Rattle.disk_model.specs.declared.form_kind.FormKind.TheVariants.{Counts}
+use Rattle.faults.specs.declared.form_kind.FormKind.{FormKind}
+use Rattle.faults.specs.declared.form_kind.FormKind.TheVariants.{Counts}
 use Rattle.partition_file.specs.declared.types.Expect.{Expect}
 use Rattle.partition_file.specs.Reader.{start}
-use Rattle.partition_file.specs.Reading.{reading}
+use Rattle.partition_file.specs.FieldsRead.{reading}
 use Rattle.partition_file.specs.Spelling.{Fits, Part, Spells, IsBytes, found}
 use Rattle.partition_file.proofs.FileLaws.{file_takes}
 use Rattle.store_law.specs.Listed.{part_of}
 use Rattle.open_store.specs.Store.{OpenStore, expect_in}
-use Rattle.open_store.specs.Reading.{IsRead, IsRefused, IsTold}
-use Rattle.open_store.specs.Streaming.{HasEnded}
+use Rattle.open_store.specs.PartRead.{IsRead, IsRefused, IsTold}
+use Rattle.open_store.specs.Stream.{HasEnded}
 
 -- no byte was given yet
 pub no_bytes : IsBytes []

@@ -4,7 +4,7 @@ use Rattle.std.specs.Prelude.{Result, Ok, Err, IsErrAnd, IsTrue, Bool}
 use Rattle.disk_model.specs.Disk.{Contents}
 use Rattle.disk_model.specs.Crash.{Elapses, From, LeavesOnly, NoMore}
 use Rattle.disk_model.specs.Run.{no_step, then_no_more, then_run}
-use Rattle.disk_model.specs.declared.form_kind.FormKind.{FormKind}
+use Rattle.faults.specs.declared.form_kind.FormKind.{FormKind}
 use Rattle.manifest_switch.specs.declared.slot.Slot.{Slot}
 use Rattle.manifest_switch.specs.declared.slot.Slot.TheVariants.{Zero, One}
 use Rattle.manifest_switch.specs.declared.slot.Found.{Found}
@@ -20,7 +20,7 @@ use Rattle.manifest_switch.proofs.SwitchLemmas.{current_alike}
 use Rattle.open_store.specs.declared.fault.StoreFault.{StoreFault}
 use Rattle.open_store.specs.Answers.{HasDiskCause}
 use Rattle.open_store.specs.Faults.{of_open}
-use Rattle.open_store.specs.Opening.{IsBadStore}
+use Rattle.open_store.specs.Opened.{IsBadStore}
 
 found_cause : (U : Type 0) (before now : ℕ) (c : Contents) (tells : Bool) (e : OpenFault) → HasOpenCause {T = Found} before now (Err e) → (IsTrue tells → AnswersCurrent (current_of c) (Err e)) → HasDiskCause {T = U} before now (λ f p k. IsTrue tells → IsBadStore c f p k) (Err (of_open e))
 found_cause U before now c tells slots.DiskFault rose answers = rose

@@ -11,8 +11,8 @@ use Rattle.pair_sched.specs.Marks.{newest_of}
 use Rattle.manifest_codec.specs.declared.types.Manifest.{Manifest}
 use Rattle.manifest_codec.specs.declared.types.PartEntry.{PartEntry}
 use Rattle.store_law.specs.Listed.{ends_of}
-use Rattle.open_store.specs.Reading.{IsTold, count_into}
-use Rattle.open_store.specs.Streaming.{IsTally}
+use Rattle.open_store.specs.PartRead.{IsTold, count_into}
+use Rattle.open_store.specs.Stream.{IsTally}
 
 -- there is an end for each partition
 pub ends_count : (m : Manifest) → length (ends_of m) ≡ length m.parts

@@ -1,9 +1,10 @@
 -- What the calls of a store answer, and why.
 use Rattle.std.specs.Prelude.{◌≡◌, ◌≢◌, ℕ, ◌≤◌, List, take, slice_get, Result, Ok, Err}
-use Rattle.io_edge.specs.declared.kinds.InputFile.{InputFile}
-use Rattle.io_edge.specs.declared.kinds.InputFile.TheVariants.{Grammar}
-use Rattle.disk_model.specs.Disk.{Contents, Rose}
-use Rattle.disk_model.specs.declared.form_kind.FormKind.{FormKind}
+use Rattle.faults.specs.declared.kinds.InputFile.{InputFile}
+use Rattle.faults.specs.declared.kinds.InputFile.TheVariants.{Grammar}
+use Rattle.faults.specs.Counts.{Rose}
+use Rattle.disk_model.specs.Disk.{Contents}
+use Rattle.faults.specs.declared.form_kind.FormKind.{FormKind}
 use Rattle.manifest_codec.specs.declared.types.Manifest.{Manifest}
 use Rattle.open_store.specs.declared.fault.StoreFault.{StoreFault}
 use Rattle.open_store.specs.declared.fault.StoreFault.TheVariants.{BadStore, DiskFault, InputFault, NoMemory, OtherInput, ReadFault}

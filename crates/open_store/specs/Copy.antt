@@ -3,8 +3,8 @@ use Rattle.std.specs.Prelude.{◌≡◌, ◌≢◌, ℕ, ◌<◌, ◌≤◌, Lis
 use Rattle.graph_words.specs.declared.types.Rule.{Rule}
 use Rattle.io_edge.specs.FirstFault.{Fault}
 use Rattle.grammar_norm.specs.GrammarText.{ReadsGrammar, grammar_fault}
-use Rattle.disk_model.specs.declared.form_kind.FormKind.{FormKind}
-use Rattle.disk_model.specs.declared.form_kind.FormKind.TheVariants.{BadLabel, BadText, Short}
+use Rattle.faults.specs.declared.form_kind.FormKind.{FormKind}
+use Rattle.faults.specs.declared.form_kind.FormKind.TheVariants.{BadLabel, BadText, Short}
 use Rattle.manifest_codec.specs.declared.types.Manifest.{Manifest}
 use Rattle.manifest_codec.specs.Rules.{labels_place, newest_version}
 use Rattle.manifest_switch.specs.declared.slot.Slot.{Slot}

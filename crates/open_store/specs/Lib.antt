@@ -1,7 +1,7 @@
 pub mod Store
-pub mod Reading
-pub mod Streaming
-pub mod Opening
+pub mod PartRead
+pub mod Stream
+pub mod Opened
 pub mod Answers
 pub mod Free
 pub mod Faults

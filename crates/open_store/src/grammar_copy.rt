@@ -5,7 +5,7 @@ ghost use Rattle.grammar_norm.specs.GrammarText.{ReadsGrammar};
 ghost use Rattle.manifest_codec.specs.Spelling.{Fits};
 ghost use Rattle.manifest_switch.specs.Slots.{file_of};
 ghost use Rattle.open_store.specs.Answers.{HasDiskCause};
-ghost use Rattle.disk_model.specs.declared.form_kind.FormKind.TheVariants.{Short};
+ghost use Rattle.faults.specs.declared.form_kind.FormKind.TheVariants.{Short};
 ghost use Rattle.disk_model.specs.View.{OnlyLooks};
 ghost use Rattle.open_store.specs.declared.fault.StoreFault.TheVariants.{BadStore};
 ghost use Rattle.open_store.specs.Copy.{IsBadCopy, IsCopyRead};

@@ -1,15 +1,15 @@
 //! A partition's file, read piece by piece.
 ghost use Rattle.std.specs.Prelude.{◌≡◌, ◌+◌, ◌^◌, ◌<◌, ◌≤◌, ◌++◌, [], ℕ, List, IsTrue, true, false, length, take, drop, Some, Ok, Err, IfOk};
 ghost use Rattle.graph_words.specs.declared.types.Born.{Born as ABorn};
-ghost use Rattle.disk_model.specs.Disk.{HasCause};
+ghost use Rattle.faults.specs.Counts.{HasCause};
 ghost use Rattle.disk_model.specs.View.{OnlyLooks};
 ghost use Rattle.partition_file.specs.declared.types.Expect.{Expect as AnExpect};
 ghost use Rattle.partition_file.specs.Reader.{rest_of};
-ghost use Rattle.partition_file.specs.Reading.{complete};
+ghost use Rattle.partition_file.specs.FieldsRead.{complete};
 ghost use Rattle.partition_file.specs.Spelling.{IsBytes, first_break};
 ghost use Rattle.open_store.specs.declared.fault.StoreFault.TheVariants.{BadStore, DiskFault};
 ghost use Rattle.open_store.specs.Answers.{HasDiskCause, blames_none};
-ghost use Rattle.open_store.specs.Streaming.{HasEnded, IsAt, IsStream};
+ghost use Rattle.open_store.specs.Stream.{HasEnded, IsAt, IsStream};
 
 use crate::fault::StoreFault;
 use disk_model::{Disk, Failed};

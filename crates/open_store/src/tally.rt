@@ -3,8 +3,8 @@ ghost use Rattle.std.specs.Prelude.{◌≡◌, ◌+◌, ◌++◌, ◌∷◌, [],
 ghost use Rattle.graph_words.specs.declared.types.Born.{Born as ABorn};
 ghost use Rattle.closing_machine.specs.State.{place, target};
 ghost use Rattle.intervals.specs.Bounds.{vertices_of, IsCut as IsCutAt};
-ghost use Rattle.open_store.specs.Reading.{count_below_of};
-ghost use Rattle.open_store.specs.Streaming.{IsTally};
+ghost use Rattle.open_store.specs.PartRead.{count_below_of};
+ghost use Rattle.open_store.specs.Stream.{IsTally};
 
 use graph_words::Born;
 use intervals::Intervals;

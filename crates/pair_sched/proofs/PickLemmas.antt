@@ -4,7 +4,7 @@ use Rattle.std.proofs.lemmas.Bool.{cases_lt}
 use Rattle.closing_machine.specs.State.{IsDirtyBy, GoesBefore, IsPick}
 use Rattle.closing_machine.proofs.Members.{either}
 use Rattle.dest_map.specs.Table.{Comes}
-use Rattle.pair_sched.specs.Picking.{IsBest}
+use Rattle.pair_sched.specs.Pick.{IsBest}
 
 -- the pairs before (i, j + 1) are those before (i, j), and (i, j)
 comes_more : (a b i j : ℕ) → Comes a b i (j + 1) → Comes a b i j ⊎ ((i ≡ a) × (j ≡ b))

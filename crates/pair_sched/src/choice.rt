@@ -2,7 +2,7 @@ ghost use Rattle.std.specs.Prelude.{◌≡◌, ◌+◌, ◌<◌, ℕ, IsTrue, If
 ghost use Rattle.closing_machine.specs.State.{IsDirtyBy, IsPick};
 ghost use Rattle.dest_map.specs.Table.{counts_of};
 ghost use Rattle.pair_sched.specs.Marks.{joined_of, newest_of};
-ghost use Rattle.pair_sched.specs.Picking.{IsBest, IsClean, IsLeastDirty};
+ghost use Rattle.pair_sched.specs.Pick.{IsBest, IsClean, IsLeastDirty};
 
 use crate::marks::Marks;
 use dest_map::DestMap;

@@ -5,9 +5,9 @@ use Rattle.std.proofs.lemmas.Bool.Decides.{nat_tests}
 use Rattle.byteorder.specs.Endian.{little_bytes}
 use Rattle.graph_words.specs.declared.types.Edge.{Edge}
 use Rattle.graph_words.specs.declared.types.Born.{Born}
-use Rattle.disk_model.specs.declared.form_kind.FormKind.TheVariants.{BadLabel, BadOrder, BadVertex, BadBirth}
+use Rattle.faults.specs.declared.form_kind.FormKind.TheVariants.{BadLabel, BadOrder, BadVertex, BadBirth}
 use Rattle.partition_file.specs.declared.types.Expect.{Expect}
-use Rattle.partition_file.specs.Reading.{Behind, need, edge, born, is_known, is_above, label_at, label_then, destination_at, destination_then, birth_at, birth_then}
+use Rattle.partition_file.specs.FieldsRead.{Behind, need, edge, born, is_known, is_above, label_at, label_then, destination_at, destination_then, birth_at, birth_then}
 use Rattle.partition_file.specs.Spelling.{found, FitsEdge, IsBytes, IsExpect, edge_bytes}
 use Rattle.partition_file.proofs.NumberLaws.{Takes, Takes-then, wide2, wide4, wide8, need_takes, number_takes, number_again}
 

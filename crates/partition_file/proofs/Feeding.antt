@@ -3,7 +3,7 @@ use Rattle.std.proofs.Common.{◌⊎◌, ◌≡◌, ℕ, ◌+◌, ◌-◌, ◌<�
 use Rattle.std.proofs.lemmas.Bool.{lt-ltb}
 use Rattle.std.proofs.lemmas.Bool.Decides.{nat_tests}
 use Rattle.std.proofs.lemmas.List.{append-nil, length-take, take_more_set}
-use Rattle.disk_model.specs.declared.form_kind.FormKind.TheVariants.{Short}
+use Rattle.faults.specs.declared.form_kind.FormKind.TheVariants.{Short}
 use Rattle.partition_file.specs.declared.types.Expect.{Expect}
 use Rattle.partition_file.specs.declared.types.PartFault.{PartFault}
 use Rattle.partition_file.specs.declared.types.Stage.{Stage}
@@ -12,7 +12,7 @@ use Rattle.partition_file.specs.declared.types.Completed.{Completed}
 use Rattle.partition_file.specs.declared.types.Completed.TheVariants as completed
 use Rattle.partition_file.specs.declared.types.RowStep.{RowStep}
 use Rattle.partition_file.specs.declared.types.RowStep.TheVariants as steps
-use Rattle.partition_file.specs.Reading.{Behind, complete, number, stop, magic_at, low_at, high_at, count_at, label_at, destination_at, birth_at, end_at, magic_then, low_then, high_then, count_then, label_then, destination_then, birth_then}
+use Rattle.partition_file.specs.FieldsRead.{Behind, complete, number, stop, magic_at, low_at, high_at, count_at, label_at, destination_at, birth_at, end_at, magic_then, low_then, high_then, count_then, label_then, destination_then, birth_then}
 use Rattle.partition_file.specs.Stages.{stage_at, width_of, is_whole, IsField, IsNext, IsStage, IsCompleted, completed_at, stage_behind, step_of, behind_row, behind_edge}
 use Rattle.partition_file.specs.Reader.{Reader, IsOpen, rest_of, Feeds, Gives, Uses}
 

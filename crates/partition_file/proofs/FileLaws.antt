@@ -6,13 +6,13 @@ use Rattle.std.proofs.lemmas.Bool.Decides.{nat_tests}
 use Rattle.std.proofs.lemmas.List.Elements.{All-from_recursion, recursion_from_All}
 use Rattle.byteorder.specs.Endian.{little_bytes}
 use Rattle.graph_words.specs.declared.types.Born.{Born}
-use Rattle.disk_model.specs.declared.form_kind.FormKind.TheVariants.{BadBounds}
+use Rattle.faults.specs.declared.form_kind.FormKind.TheVariants.{BadBounds}
 use Rattle.partition_file.specs.declared.types.Expect.{Expect}
 use Rattle.partition_file.specs.declared.types.Format.{Format}
 use Rattle.partition_file.specs.declared.types.Format.TheVariants.{First}
 use Rattle.partition_file.specs.declared.types.PartError.{PartError}
 use Rattle.partition_file.specs.declared.types.PartError.TheVariants as errors
-use Rattle.partition_file.specs.Reading.{Found, need, rows_of, first_magic, format_of, in_format, high_at, high_then, low_at, low_then, magic_at, magic_then, reading}
+use Rattle.partition_file.specs.FieldsRead.{Found, need, rows_of, first_magic, format_of, in_format, high_at, high_then, low_at, low_then, magic_at, magic_then, reading}
 use Rattle.partition_file.specs.Spelling.{found, Part, FitsEdge, Fits, IsBytes, IsExpect, rows_bytes, spelling, Spells, Decodes, Answers}
 use Rattle.partition_file.proofs.NumberLaws.{Takes-then, wide4, need_takes, number_takes, number_again}
 use Rattle.partition_file.proofs.Splits.{Above, Ascends-from_pairs, pairs_from_Ascends}

@@ -5,10 +5,10 @@ use Rattle.std.proofs.lemmas.List.{take-append-drop, length-take, get_or-drop, g
 use Rattle.std.proofs.lemmas.Nat.{le_bytes_2, le_bytes_4, le_bytes_8}
 use Rattle.byteorder.specs.Endian.{little_number, little_bytes}
 use Rattle.byteorder.specs.Numbers.{little_from-append, little_number-reads_back, little_from-lt, length-bytes_low_first}
-use Rattle.disk_model.specs.declared.form_kind.FormKind.{FormKind}
-use Rattle.disk_model.specs.declared.form_kind.FormKind.TheVariants.{Short}
+use Rattle.faults.specs.declared.form_kind.FormKind.{FormKind}
+use Rattle.faults.specs.declared.form_kind.FormKind.TheVariants.{Short}
 use Rattle.graph_words.specs.declared.types.Born.{Born}
-use Rattle.partition_file.specs.Reading.{Found, Behind, number, need, stop}
+use Rattle.partition_file.specs.FieldsRead.{Found, Behind, number, need, stop}
 use Rattle.partition_file.specs.Spelling.{IsBytes, found}
 use Rattle.partition_file.proofs.Numbers.{number_whole}
 

@@ -8,10 +8,10 @@ use Rattle.graph_words.specs.declared.types.Edge.{Edge}
 use Rattle.graph_words.specs.declared.types.Born.{Born}
 use Rattle.partition_file.specs.declared.types.Expect.{Expect}
 use Rattle.partition_file.specs.declared.types.Format.{Format}
-use Rattle.disk_model.specs.declared.form_kind.FormKind.{FormKind}
+use Rattle.faults.specs.declared.form_kind.FormKind.{FormKind}
 use Rattle.partition_file.specs.declared.types.PartFault.{PartFault}
-use Rattle.disk_model.specs.declared.form_kind.FormKind.TheVariants.{Extra, BadLabel, BadVertex, BadOrder, BadBirth}
-use Rattle.partition_file.specs.Reading.{Behind, Found, need, fault_of, ends_with, edge, born, is_known, is_above, number, magic_at, magic_then, low_at, low_then, high_at, high_then, count_at, count_then, label_at, label_then, destination_at, destination_then, birth_at, birth_then, row_at, end_at, stop}
+use Rattle.faults.specs.declared.form_kind.FormKind.TheVariants.{Extra, BadLabel, BadVertex, BadOrder, BadBirth}
+use Rattle.partition_file.specs.FieldsRead.{Behind, Found, need, fault_of, ends_with, edge, born, is_known, is_above, number, magic_at, magic_then, low_at, low_then, high_at, high_then, count_at, count_then, label_at, label_then, destination_at, destination_then, birth_at, birth_then, row_at, end_at, stop}
 
 pub number_whole : (w place : ℕ) (field rest : List ℕ) (next : ℕ → Behind) → length field ≡ w → number w place (field ++ rest) next ≡ next (little_number w field) (place + w) rest
 number_whole w place field rest next len =

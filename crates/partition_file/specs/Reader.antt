@@ -1,14 +1,14 @@
 -- A reader of a partition file that comes in pieces.
 use Rattle.std.specs.Prelude.{◌≡◌, ℕ, ◌+◌, ◌<◌, ◌≤◌, false, List, [], ◌++◌, length, Option, Some, None, ◌⊎◌}
 use Rattle.graph_words.specs.declared.types.Born.{Born}
-use Rattle.disk_model.specs.declared.form_kind.FormKind.TheVariants.{Short}
+use Rattle.faults.specs.declared.form_kind.FormKind.TheVariants.{Short}
 use Rattle.partition_file.specs.declared.types.Expect.{Expect}
 use Rattle.partition_file.specs.declared.types.PartFault.{PartFault}
 use Rattle.partition_file.specs.declared.types.Stage.{Stage}
 use Rattle.partition_file.specs.declared.types.Stage.TheVariants as stages
 use Rattle.partition_file.specs.declared.types.RowStep.{RowStep}
 use Rattle.partition_file.specs.declared.types.RowStep.TheVariants as steps
-use Rattle.partition_file.specs.Reading.{Found, complete, ends_with, stop, then_found}
+use Rattle.partition_file.specs.FieldsRead.{Found, complete, ends_with, stop, then_found}
 use Rattle.partition_file.specs.Stages.{stage_at, is_whole, IsStage}
 
 -- a reader: the field that comes next, its place, and its bytes so far

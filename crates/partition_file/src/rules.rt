@@ -1,6 +1,6 @@
 ghost use Rattle.std.specs.Prelude.{◌≡◌, false, if◌then◌else◌, nat_lt};
-ghost use Rattle.partition_file.specs.Reading as Rules;
-ghost use Rattle.partition_file.specs.Reading.{fault_of};
+ghost use Rattle.partition_file.specs.FieldsRead as Rules;
+ghost use Rattle.partition_file.specs.FieldsRead.{fault_of};
 
 use crate::types::{Expect, PartFault};
 use disk_model::FormKind;

@@ -9,10 +9,10 @@ use Rattle.graph_words.specs.declared.types.Born.{Born}
 use Rattle.io_edge.specs.Devices.{AppendsPrefix}
 use Rattle.closing_machine.specs.Parts.{all_edges}
 use Rattle.disk_model.specs.Disk.{Contents}
-use Rattle.disk_model.specs.declared.form_kind.FormKind.{FormKind}
+use Rattle.faults.specs.declared.form_kind.FormKind.{FormKind}
 use Rattle.store_law.specs.Listed.{part_file}
 use Rattle.open_store.specs.Store.{IsOpenStore, OpenStore}
-use Rattle.open_store.specs.Reading.{IsRead, IsRefused}
+use Rattle.open_store.specs.PartRead.{IsRead, IsRefused}
 use Rattle.query_text.specs.Answered.{AreRead, IsBlamed}
 use Rattle.query_text.specs.Text.{label_count, label_line, label_lines, tally_text}
 use Rattle.query_text.specs.Shown.{AreTallied, HasGathered}

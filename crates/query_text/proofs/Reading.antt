@@ -14,7 +14,7 @@ use Rattle.partition_file.specs.Spelling.{FitsEdge}
 use Rattle.store_law.specs.Listed.{ends_of, part_file}
 use Rattle.store_law.proofs.Intervals.{cut_from_cover}
 use Rattle.open_store.specs.Store.{IsOpenStore, OpenStore, expect_in}
-use Rattle.open_store.specs.Reading.{IsRead}
+use Rattle.open_store.specs.PartRead.{IsRead}
 use Rattle.query_text.specs.Answered.{AreRead}
 
 pub all_edges-append : (xs ys : List (List Born)) → all_edges (xs ++ ys) ≡ all_edges xs ++ all_edges ys

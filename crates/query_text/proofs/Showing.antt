@@ -10,11 +10,11 @@ use Rattle.io_edge.specs.Devices.{AppendsPrefix}
 use Rattle.graph_words.specs.declared.types.Born.{Born}
 use Rattle.closing_machine.specs.Parts.{all_edges}
 use Rattle.disk_model.specs.Disk.{Contents}
-use Rattle.disk_model.specs.declared.form_kind.FormKind.{FormKind}
+use Rattle.faults.specs.declared.form_kind.FormKind.{FormKind}
 use Rattle.manifest_codec.specs.declared.types.Manifest.{Manifest}
 use Rattle.store_law.specs.Listed.{part_file}
 use Rattle.open_store.specs.Store.{IsOpenStore, OpenStore}
-use Rattle.open_store.specs.Reading.{IsRead, IsRefused}
+use Rattle.open_store.specs.PartRead.{IsRead, IsRefused}
 use Rattle.query_text.specs.Answered.{AreRead, HasAnswerCause, IsBlamed, IsPrinted}
 use Rattle.query_text.specs.Shown.{Gathers, HasGathered, IsGathered, is_shown, line_of, shown_in, shown_text}
 use Rattle.query_text.specs.declared.fault.AnswerFault.{AnswerFault}

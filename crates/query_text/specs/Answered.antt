@@ -2,14 +2,15 @@
 use Rattle.std.specs.Prelude.{◌≡◌, ℕ, ◌+◌, ◌≤◌, ◌<◌, Bool, IsTrue, List, [], length, slice_index_or, Option, None, Some, Result, Ok, Err, OnOk}
 use Rattle.graph_words.specs.declared.types.Born.{Born}
 use Rattle.normal_law.specs.NormalForm.{normal_form}
-use Rattle.io_edge.specs.Devices.{Rose, Takes}
+use Rattle.faults.specs.Counts.{Rose}
+use Rattle.io_edge.specs.Devices.{Takes}
 use Rattle.closing_machine.specs.State.{place}
 use Rattle.closing_machine.specs.Parts.{all_edges}
 use Rattle.disk_model.specs.Disk.{Contents}
-use Rattle.disk_model.specs.declared.form_kind.FormKind.{FormKind}
+use Rattle.faults.specs.declared.form_kind.FormKind.{FormKind}
 use Rattle.store_law.specs.Listed.{AreListed, ends_of, part_file}
 use Rattle.open_store.specs.Store.{OpenStore}
-use Rattle.open_store.specs.Reading.{IsRead, IsRefused}
+use Rattle.open_store.specs.PartRead.{IsRead, IsRefused}
 use Rattle.query_text.specs.declared.fault.AnswerFault.{AnswerFault}
 use Rattle.query_text.specs.declared.fault.AnswerFault.TheVariants.{BadStore, DiskFault, NoMemory, WriteFault}
 

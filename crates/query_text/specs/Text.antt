@@ -7,7 +7,7 @@ use Rattle.graph_words.specs.declared.types.Born.{Born}
 use Rattle.edge_text.specs.Print.{edge_bytes}
 use Rattle.dest_map.specs.Table.{counts_of}
 use Rattle.pair_sched.specs.Marks.{joined_of, newest_of}
-use Rattle.pair_sched.specs.Picking.{IsClean, IsLeastDirty}
+use Rattle.pair_sched.specs.Pick.{IsClean, IsLeastDirty}
 use Rattle.manifest_codec.specs.declared.types.PartEntry.{PartEntry}
 use Rattle.manifest_codec.specs.declared.types.Manifest.{Manifest}
 

@@ -2,18 +2,18 @@
 #![tactic(auto)]
 
 mod fault;
-mod heading;
+mod head;
 mod laws;
 mod lines;
-mod listing;
-mod loading;
+mod edge_lines;
+mod load;
 mod page;
 mod show;
-mod tallying;
+mod label_counts;
 mod walk;
 
 pub use fault::AnswerFault;
-pub use heading::{head, parts};
+pub use head::{head, parts};
 pub use laws::{answers_stand_in_their_partition, edges_are_those_listed};
-pub use listing::{answers, dump};
-pub use tallying::tally;
+pub use edge_lines::{answers, dump};
+pub use label_counts::tally;

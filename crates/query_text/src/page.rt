@@ -1,6 +1,7 @@
 //! Printed lines are gathered in memory before they go to the sink.
 ghost use Rattle.std.specs.Prelude.{◌≡◌, ◌++◌, ◌+◌, ◌≤◌, [], length, IfOk, OnOk};
-ghost use Rattle.io_edge.specs.Devices.{HasCause, Takes};
+ghost use Rattle.faults.specs.Counts.{HasCause};
+ghost use Rattle.io_edge.specs.Devices.{Takes};
 ghost use Rattle.query_text.specs.Shown.{Gathers};
 
 use io_edge::{Failed, Sink};

@@ -1,7 +1,7 @@
 //! Which edges are shown, and how.
 ghost use Rattle.std.specs.Prelude.{◌≡◌, ◌∷◌, [], length, IfOk};
 ghost use Rattle.std.specs.Option.{option_map};
-ghost use Rattle.io_edge.specs.Devices.{HasCause};
+ghost use Rattle.faults.specs.Counts.{HasCause};
 ghost use Rattle.query_text.specs.Text as text;
 ghost use Rattle.query_text.specs.Shown.{Gathers, IsLineOf, shown_in, shown_text};
 

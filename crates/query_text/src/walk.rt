@@ -8,7 +8,7 @@ ghost use Rattle.query_text.specs.Answered.{HasAnswerCause, IsBlamed, IsPrinted}
 ghost use Rattle.query_text.specs.Shown.{IsGathered, shown_in, shown_text};
 
 use crate::fault::AnswerFault;
-use crate::loading::load;
+use crate::load::load;
 use crate::page::Page;
 use crate::show::Show;
 use disk_model::Disk;

@@ -5,7 +5,7 @@ mod blocks;
 mod centre_joins;
 mod centres;
 mod in_edges;
-mod merging;
+mod ordered_edges;
 mod number_set;
 mod round;
 mod row_starts;

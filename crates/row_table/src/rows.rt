@@ -7,7 +7,7 @@ ghost use Rattle.closing_machine.specs.Rounds.{HasEdge, IsOrdered};
 ghost use Rattle.row_table.specs.Loaded.{Loaded, LiesIn, IsBehind, IsLoaded, IsRow, StandsBehind, loaded_of, newer_of, newer_edges, Absorbs};
 ghost use Rattle.row_table.specs.Index.{PartsAt, AreStarts, AreHighStarts, AreRows};
 
-use crate::merging::{has_edge, merge};
+use crate::ordered_edges::{has_edge, merge};
 use crate::row_starts::{row_in, set_starts, starts_of};
 use crate::span::Span;
 use graph_words::{Born, Edge, EdgeList};

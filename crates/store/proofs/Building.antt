@@ -17,10 +17,10 @@ use Rattle.dest_map.specs.Counts.{IsCountsOf}
 use Rattle.dest_map.specs.Table.{counts_of}
 use Rattle.manifest_codec.specs.declared.types.PartEntry.{PartEntry}
 use Rattle.import_text.specs.Given.{AreGiven}
-use Rattle.import_text.specs.Reading.{expect_given}
+use Rattle.import_text.specs.GivenPart.{expect_given}
 use Rattle.store.specs.declared.source.Source.{Source}
 use Rattle.store.specs.declared.tables.Tables.{Tables}
-use Rattle.store.specs.Making.{IsBuilt, IsCounted, IsPut, SameTexts, expect_at, graph_in, part_at}
+use Rattle.store.specs.NewStore.{IsBuilt, IsCounted, IsPut, SameTexts, expect_at, graph_in, part_at}
 use Rattle.store.proofs.Covering.{same_low}
 use Rattle.store.proofs.Parts.{one_part_more}
 

@@ -1,7 +1,7 @@
 -- The causes of faults that a call hands on.
 use Rattle.std.proofs.Common.{◌≡◌, ℕ, ◌≤◌, List, Some, refl, sym, subst, arith}
 use Rattle.std.specs.Prelude.{Err, IsErrAnd, Ok, Option, Result}
-use Rattle.io_edge.specs.declared.kinds.InputKind.{InputKind}
+use Rattle.faults.specs.declared.kinds.InputKind.{InputKind}
 use Rattle.edge_text.specs.EdgesText.{edges_fault}
 use Rattle.grammar_norm.specs.GrammarText.{grammar_names}
 use Rattle.manifest_switch.specs.declared.slot.SwitchFault.{SwitchFault}
@@ -9,14 +9,14 @@ use Rattle.manifest_switch.specs.declared.slot.SwitchFault.TheVariants as switch
 use Rattle.manifest_switch.specs.Steps.{HasFaultCause}
 use Rattle.import_text.specs.declared.fault.TextFault.{TextFault}
 use Rattle.import_text.specs.declared.fault.TextFault.TheVariants as texts
-use Rattle.import_text.specs.Copying.{HasCauseIn}
-use Rattle.import_text.specs.Reading.{HasCauseOn}
+use Rattle.import_text.specs.Copy.{HasCauseIn}
+use Rattle.import_text.specs.GivenPart.{HasCauseOn}
 use Rattle.open_store.specs.declared.fault.StoreFault.{StoreFault}
 use Rattle.open_store.specs.declared.fault.StoreFault.TheVariants.{BadStore, DiskFault, InputFault, NoMemory, OtherInput, ReadFault}
 use Rattle.open_store.specs.Answers.{HasDiskCause}
 use Rattle.open_store.specs.Faults.{of_switch}
 use Rattle.store.specs.Import.{HasImportCause}
-use Rattle.store.specs.Making.{blames_copy, of_text}
+use Rattle.store.specs.NewStore.{blames_copy, of_text}
 
 -- a copy that was not made
 pub text_cause : (grammar : List ℕ) (told : Option (List ℕ)) (tells : Type 0) (reads reads' calls mid calls' : ℕ) (f : TextFault) → calls ≤ mid → ((line : ℕ) (kind : InputKind) → f ≡ texts.Text line kind → (text : List ℕ) → told ≡ Some text → edges_fault 0 (grammar_names grammar) text ≡ Some (record { line = line; kind = kind })) → HasCauseIn reads reads' mid calls' f → HasImportCause grammar told tells reads reads' calls calls' (of_text f)

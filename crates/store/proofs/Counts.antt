@@ -10,7 +10,7 @@ use Rattle.closing_machine.specs.State.{part, target}
 use Rattle.intervals.specs.Bounds.{IsCut, LiesIn}
 use Rattle.open_store.proofs.Places.{place_of_lies}
 use Rattle.dest_map.specs.Counts.{IsCountsOf}
-use Rattle.store.specs.Making.{IsCounted}
+use Rattle.store.specs.NewStore.{IsCounted}
 
 pub raised_few : (t : Bool) (x m n : ℕ) → m ≡ cond t (x + 1) x → x ≤ n → m ≤ n + 1
 raised_few true x m n is few = omega (arith, is, few)

@@ -21,7 +21,7 @@ use Rattle.store_law.proofs.Intervals.{are_partitions, cut_from_cover}
 use Rattle.open_store.proofs.Places.{place_of_lies}
 use Rattle.store.specs.declared.source.Source.{Source}
 use Rattle.store.specs.declared.tables.Tables.{Tables}
-use Rattle.store.specs.Making.{IsBuilt, IsFirst, expect_at}
+use Rattle.store.specs.NewStore.{IsBuilt, IsFirst, expect_at}
 use Rattle.closing_machine.specs.Capacity.{IsBetween}
 use Rattle.closing_machine.proofs.Boxes.{passing_fit}
 use Rattle.store.proofs.Covering.{cover_is, ends_are, same_low, width_is}

@@ -5,7 +5,7 @@ use Rattle.disk_model.specs.Crash.{From, LeavesOnly}
 use Rattle.disk_model.specs.Run.{no_step, then_no_more, then_run}
 use Rattle.disk_model.specs.OneFile.{OnlyFile}
 use Rattle.disk_model.specs.Looks.{Looks}
-use Rattle.store.specs.Making.{IsBeside}
+use Rattle.store.specs.NewStore.{IsBeside}
 
 pub beside_refl : (c : Contents) → IsBeside c c
 beside_refl c = record { first = refl; second = refl }

@@ -2,7 +2,7 @@
 use Rattle.std.proofs.Common.{◌≡◌, ℕ, ◌+◌, ◌≤◌, Bool, true, false, List, [], ◌∷◌, length, inl, inr, Option, Some, None, refl, arith}
 use Rattle.std.proofs.lemmas.Bool.{cases_lt}
 use Rattle.std.specs.List.{onto_first}
-use Rattle.io_edge.specs.declared.kinds.InputKind.{InputKind}
+use Rattle.faults.specs.declared.kinds.InputKind.{InputKind}
 use Rattle.io_edge.specs.Lines.{is_line_feed, segments, without_end}
 use Rattle.io_edge.specs.FirstFault.{Fault, fault_or, first_fault, line_fault, with_line}
 use Rattle.io_edge.proofs.FaultLemmas.{far_fault, long_fault}

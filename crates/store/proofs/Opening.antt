@@ -35,7 +35,7 @@ use Rattle.store_law.specs.Imported.{AreDegrees, IsFresh}
 use Rattle.store.specs.declared.source.Source.{Source}
 use Rattle.store.specs.declared.tables.Tables.{Tables}
 use Rattle.store.specs.Import.{texts_of}
-use Rattle.store.specs.Making.{IsBuilt, IsFirst, IsSource, graph_in}
+use Rattle.store.specs.NewStore.{IsBuilt, IsFirst, IsSource, graph_in}
 use Rattle.store.proofs.Covering.{same_low}
 use Rattle.store.proofs.Fitting.{cut_all, ends_of_parts, lies_at, ordered}
 use Rattle.store.proofs.Parts.{all_of, stands}

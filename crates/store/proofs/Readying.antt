@@ -16,10 +16,10 @@ use Rattle.disk_model.specs.Disk.{Contents}
 use Rattle.intervals.specs.DegreeCut.{IsCutByDegree}
 use Rattle.manifest_codec.specs.declared.types.PartEntry.{PartEntry}
 use Rattle.manifest_codec.specs.declared.types.Manifest.{Manifest}
-use Rattle.import_text.specs.Reading.{IsGoodCopy}
+use Rattle.import_text.specs.GivenPart.{IsGoodCopy}
 use Rattle.store.specs.declared.source.Source.{Source}
 use Rattle.store.specs.declared.tables.Tables.{Tables}
-use Rattle.store.specs.Making.{IsBuilt, IsFirst, IsPrepared, IsSource, MayPut, SameTexts}
+use Rattle.store.specs.NewStore.{IsBuilt, IsFirst, IsPrepared, IsSource, MayPut, SameTexts}
 use Rattle.store.proofs.Fitting.{ends_of_parts, first_fits}
 use Rattle.store.proofs.Lengths.{within_limit}
 use Rattle.store.proofs.Opening.{first_fresh, good_texts, labels_are, vertices_are as text_vertices}

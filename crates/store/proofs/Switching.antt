@@ -14,9 +14,9 @@ use Rattle.manifest_switch.proofs.LawLemmas.{alone_law}
 use Rattle.open_store.specs.Copy.{IsCopyRead}
 use Rattle.open_store.specs.Store.{IsHeldAlone, OpenStore}
 use Rattle.store_law.proofs.Keeping.{fresh_beside, fresh_switched}
-use Rattle.store.specs.declared.preparing.Prepared.{Prepared}
+use Rattle.store.specs.declared.prepared.Prepared.{Prepared}
 use Rattle.store.specs.Import.{HasFresh, Imports, IsImportOf, IsNewStore, texts_of}
-use Rattle.store.specs.Making.{IsBeside, IsPrepared}
+use Rattle.store.specs.NewStore.{IsBeside, IsPrepared}
 
 pub still_blank : (d c : Contents) → IsBeside d c → IsBlank d → IsBlank c
 still_blank d c beside blank = record { first = ap is_open beside.first ∙ blank.first; second = ap is_open beside.second ∙ blank.second }

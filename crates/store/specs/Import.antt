@@ -1,12 +1,12 @@
 -- What an import answers, and what a crash during one leaves.
 use Rattle.std.specs.Prelude.{◌≡◌, ◌⊎◌, ℕ, List, [], ◌∷◌, length, Option, Some, Ok}
 use Rattle.graph_words.specs.declared.types.Born.{Born}
-use Rattle.io_edge.specs.declared.kinds.InputFile.TheVariants.{Edges}
-use Rattle.io_edge.specs.Devices.{Rose}
+use Rattle.faults.specs.declared.kinds.InputFile.TheVariants.{Edges}
+use Rattle.faults.specs.Counts.{Rose}
 use Rattle.edge_text.specs.EdgesText.{edges_fault}
 use Rattle.grammar_norm.specs.GrammarText.{ReadsGrammar, grammar_names}
-use Rattle.disk_model.specs.Disk.{Contents, Rose as DiskRose}
-use Rattle.disk_model.specs.declared.form_kind.FormKind.TheVariants.{BadText}
+use Rattle.disk_model.specs.Disk.{Contents}
+use Rattle.faults.specs.declared.form_kind.FormKind.TheVariants.{BadText}
 use Rattle.manifest_codec.specs.declared.types.Manifest.{Manifest}
 use Rattle.manifest_switch.specs.declared.slot.Slot.{Slot}
 use Rattle.manifest_switch.specs.declared.slot.Slot.TheVariants.{Zero}
@@ -63,7 +63,7 @@ Imports grammar told limit old new = (current_of new ≡ current_of old) ⊎ Has
 -- what it holds. Want of memory is free.
 abbrev pub HasImportCause : List ℕ → Option (List ℕ) → Type 0 → ℕ → ℕ → ℕ → ℕ → StoreFault → Type 0
 HasImportCause grammar told tells reads reads' calls calls' ReadFault = Rose reads reads'
-HasImportCause grammar told tells reads reads' calls calls' DiskFault = DiskRose calls calls'
+HasImportCause grammar told tells reads reads' calls calls' DiskFault = Rose calls calls'
 HasImportCause grammar told tells reads reads' calls calls' (InputFault Edges line kind) = (text : List ℕ)
     → told ≡ Some text → edges_fault 0 (grammar_names grammar) text ≡ Some (record { line = line; kind = kind })
 HasImportCause grammar told tells reads reads' calls calls' (InputFault _ line kind) = ⊥

@@ -1,2 +1,2 @@
 pub mod Import
-pub mod Making
+pub mod NewStore

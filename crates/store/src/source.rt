@@ -5,7 +5,7 @@ ghost use Rattle.disk_model.specs.View.{LeavesBy};
 ghost use Rattle.grammar_norm.specs.GrammarText.{ReadsGrammar, grammar_fault};
 ghost use Rattle.open_store.specs.declared.fault.StoreFault.TheVariants.{NoMemory};
 ghost use Rattle.store.specs.Import.{HasImportCause};
-ghost use Rattle.store.specs.Making.{IsBeside, IsSource, of_text as fault_of_text};
+ghost use Rattle.store.specs.NewStore.{IsBeside, IsSource, of_text as fault_of_text};
 
 use disk_model::{Disk, FormKind, rewrite};
 use grammar_norm::{Grammar, LabelTable, Normal, normalise, read_grammar};

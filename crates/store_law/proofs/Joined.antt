@@ -7,8 +7,8 @@ use Rattle.std.proofs.lemmas.List.Concat.{flat_map-cons}
 use Rattle.std.specs.List.{flat_map, onto_first}
 use Rattle.graph_words.specs.Text.{words, is_skipped, is_label_word, is_vertex_word, distinct, said, third}
 use Rattle.graph_words.proofs.SaidLemmas.{said_cons}
-use Rattle.io_edge.specs.declared.kinds.InputKind.{InputKind}
-use Rattle.io_edge.specs.declared.kinds.InputKind.TheVariants.{LineTooLong, TooLong, BadSource, BadDestination, BadLabel, TooManyLabels}
+use Rattle.faults.specs.declared.kinds.InputKind.{InputKind}
+use Rattle.faults.specs.declared.kinds.InputKind.TheVariants.{LineTooLong, TooLong, BadSource, BadDestination, BadLabel, TooManyLabels}
 use Rattle.io_edge.specs.Lines.{is_line_feed, segments, line, lines, without_end}
 use Rattle.io_edge.specs.FirstFault.{Fault, fault_or, line_fault, with_line, first_fault}
 use Rattle.io_edge.proofs.SegmentLemmas.{segments-join}

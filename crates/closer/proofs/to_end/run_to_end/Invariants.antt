@@ -5,7 +5,7 @@ use Rattle.disk_model.specs.Disk.{Contents}
 use Rattle.disk_model.specs.Crash.{From, LeavesJust, LeavesOnly}
 use Rattle.store_law.specs.Left.{IsDone}
 use Rattle.open_store.specs.Store.{IsHeldAlone}
-use Rattle.closer.specs.Continuing.{Continues, Retains, work_of}
+use Rattle.closer.specs.Continuation.{Continues, Retains, work_of}
 use Rattle.closer.specs.Answers.{Moves}
 use Rattle.closer.proofs.to_end.run_to_end.Given as goal
 

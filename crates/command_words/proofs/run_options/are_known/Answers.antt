@@ -2,7 +2,7 @@ use Rattle.std.proofs.Common.{Contains, arith}
 use Rattle.std.proofs.lemmas.List.{get_or_default}
 use Rattle.std.proofs.lemmas.List.Elements.{AllWithin-more, All-get_or, at_read}
 use Rattle.command_words.specs.Command.{run_options}
-use Rattle.command_words.specs.declared.cutting.Given.{Given}
+use Rattle.command_words.specs.declared.cut_words.Given.{Given}
 use Rattle.command_words.proofs.run_options.are_known.Goals as goal
 
 abbrev Known : Given → Type 0

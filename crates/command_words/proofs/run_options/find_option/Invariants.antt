@@ -1,6 +1,6 @@
 use Rattle.std.proofs.Common.{◌≡◌, map, drop}
 use Rattle.command_words.specs.Command.{value_of}
-use Rattle.command_words.specs.Cutting.{given_said}
+use Rattle.command_words.specs.CutWords.{given_said}
 use Rattle.command_words.proofs.run_options.find_option.Given as goal
 
 abbrev pub invariant-loop-option : goal.invariant-loop-option

@@ -1,5 +1,5 @@
 use Rattle.std.proofs.Common.{◌≢◌, ◌<◌, ℕ, length, slice_index_or}
-use Rattle.command_words.specs.declared.cutting.Given.{Given}
+use Rattle.command_words.specs.declared.cut_words.Given.{Given}
 use Rattle.command_words.proofs.run_options.is_once.Given as goal
 
 abbrev pub invariant-loop-i : goal.invariant-loop-i

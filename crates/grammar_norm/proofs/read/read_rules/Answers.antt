@@ -1,5 +1,5 @@
 use Rattle.std.proofs.Common.{◌≡◌, ◌+◌, ap, ◌∙◌, Some}
-use Rattle.grammar_norm.specs.declared.rules.LineFault.TheVariants.{Kind}
+use Rattle.faults.specs.declared.line_fault.LineFault.TheVariants.{Kind}
 use Rattle.grammar_norm.proofs.ReadingLemmas.{IsReading-line, IsReading-fault}
 use Rattle.grammar_norm.proofs.read.read_rules.Goals as goal
 

@@ -1,5 +1,5 @@
 use Rattle.std.proofs.Common.{refl}
-use Rattle.io_edge.specs.Devices.{Rose}
+use Rattle.faults.specs.Counts.{Rose}
 use Rattle.graspan_top.proofs.PrintLemmas.{loud_ends}
 use Rattle.graspan_top.proofs.command.end.Goals as goal
 

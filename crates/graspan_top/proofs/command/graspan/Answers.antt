@@ -1,12 +1,12 @@
 use Rattle.std.proofs.Common.{◌≡◌, ℕ, ◌≤◌, List, Option, refl, sym, subst, ◌∙◌, arith}
-use Rattle.disk_model.specs.Disk.{Contents, Rose as DiskRose}
-use Rattle.io_edge.specs.Devices.{Rose}
+use Rattle.faults.specs.Counts.{Rose}
+use Rattle.disk_model.specs.Disk.{Contents}
 use Rattle.command_words.specs.Command.{Said, run, said}
 use Rattle.command_words.proofs.ReadingLemmas.{one_reading}
 use Rattle.graspan_top.specs.Command.{Explains, IsBegunOf, IsTextOf}
 use Rattle.graspan_top.specs.Faults.{of_words}
 use Rattle.graspan_top.specs.Given.{Given}
-use Rattle.graspan_top.specs.Printing.{Begins, BeginsWhole, Prints, PrintsFirst, status_of}
+use Rattle.graspan_top.specs.Printed.{Begins, BeginsWhole, Prints, PrintsFirst, status_of}
 use Rattle.graspan_top.specs.declared.status.Status.{Status}
 use Rattle.graspan_top.specs.declared.status.Status.TheVariants.{Done}
 use Rattle.graspan_top.proofs.CommandLemmas.{nothing_begun_of, said_later, words_back, words_explain, words_not_done, words_or_memory, explains_no_words}
@@ -21,7 +21,7 @@ returns-in-Ok-clause-explained g c = λ d reading.
     let O = g.O.Sink in
     let x : Given = record { told = I.told c.args.inputs.now; tells = D.tells; before = D.seen c.args.disk.now } in
     let reads = λ (name : List ℕ). Rose (I.faults c.args.inputs.now name) (I.faults c.carry_out-ended.new.inputs name) in
-    let dr : Type 0 = DiskRose (D.faults c.args.disk.now) (D.faults c.carry_out-ended.new.disk) in
+    let dr : Type 0 = Rose (D.faults c.args.disk.now) (D.faults c.carry_out-ended.new.disk) in
     let after = D.seen c.carry_out-ended.new.disk in
     let same : said c.in-Ok.command ≡ d = one_reading c.args.words.now (said c.in-Ok.command) d c.in-Ok.ensures.reading reading in
     let wr : Type 0 = Rose (O.faults c.args.out.now) (O.faults c.carry_out-ended.new.out) in
@@ -76,7 +76,7 @@ returns-in-Ok-clause-words g c =
     let O = g.O.Sink in
     let x : Given = record { told = I.told c.args.inputs.now; tells = D.tells; before = D.seen c.args.disk.now } in
     let reads = λ (name : List ℕ). Rose (I.faults c.args.inputs.now name) (I.faults c.carry_out-ended.new.inputs name) in
-    let dr : Type 0 = DiskRose (D.faults c.args.disk.now) (D.faults c.carry_out-ended.new.disk) in
+    let dr : Type 0 = Rose (D.faults c.args.disk.now) (D.faults c.carry_out-ended.new.disk) in
     let wr : Type 0 = Rose (O.faults c.args.out.now) (O.faults c.carry_out-ended.new.out) in
     let after = D.seen c.carry_out-ended.new.disk in (
       (λ is d reading. explains_no_words x after reads dr wr (said c.in-Ok.command) (subst (λ (s : Status). Explains x after reads dr wr (said c.in-Ok.command) s) (sym c.end.ensures.status ∙ is) c.carry_out-ended.ensures.explained)),
@@ -97,7 +97,7 @@ returns-in-Err-clause-explained g c = λ d reading.
     let O = g.O.Sink in
     let x : Given = record { told = I.told c.args.inputs.now; tells = D.tells; before = D.seen c.args.disk.now } in
     let reads = λ (name : List ℕ). Rose (I.faults c.args.inputs.now name) (I.faults c.args.inputs.now name) in
-    let dr : Type 0 = DiskRose (D.faults c.args.disk.now) (D.faults c.args.disk.now) in
+    let dr : Type 0 = Rose (D.faults c.args.disk.now) (D.faults c.args.disk.now) in
     let wr : Type 0 = Rose (O.faults c.args.out.now) (O.faults c.end-in-Err.new.out) in
     subst (λ (s : Status). Explains x (D.seen c.args.disk.now) reads dr wr d s) (sym (c.end-in-Err.ensures.status ∙ c.from.ensures))
     (words_explain x (D.seen c.args.disk.now) reads dr wr c.in-Err.fault (λ e. c.in-Err.ensures.words e d reading) d)

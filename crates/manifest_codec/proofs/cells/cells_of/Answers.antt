@@ -1,6 +1,6 @@
 use Rattle.std.proofs.Common.{[]}
 use Rattle.std.proofs.lemmas.Result.{err_from_is_err_and}
-use Rattle.manifest_codec.specs.Reading.{cells_at}
+use Rattle.manifest_codec.specs.FieldsRead.{cells_at}
 use Rattle.manifest_codec.proofs.Loops.{cells_go_on, cells_end, cells_break, cells_done}
 use Rattle.manifest_codec.proofs.cells.cells_of.Goals as goal
 

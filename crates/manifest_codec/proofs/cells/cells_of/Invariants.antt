@@ -1,5 +1,5 @@
 use Rattle.std.proofs.Common.{◌≡◌, [], drop}
-use Rattle.manifest_codec.specs.Reading.{cells_at}
+use Rattle.manifest_codec.specs.FieldsRead.{cells_at}
 use Rattle.manifest_codec.proofs.cells.cells_of.Given as goal
 
 abbrev pub invariant-loop-limit : goal.invariant-loop-limit

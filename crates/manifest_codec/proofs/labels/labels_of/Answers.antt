@@ -1,6 +1,6 @@
 use Rattle.std.proofs.Common.{[], arith}
 use Rattle.std.proofs.lemmas.Result.{err_from_is_err_and}
-use Rattle.manifest_codec.specs.Reading.{labels_at}
+use Rattle.manifest_codec.specs.FieldsRead.{labels_at}
 use Rattle.manifest_codec.proofs.Loops.{labels_go_on, labels_end, labels_done}
 use Rattle.manifest_codec.proofs.ListLaws.{label_adds}
 use Rattle.manifest_codec.proofs.labels.labels_of.Goals as goal

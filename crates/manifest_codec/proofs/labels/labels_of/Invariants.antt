@@ -1,5 +1,5 @@
 use Rattle.std.proofs.Common.{◌≡◌, ◌≤◌, ◌-◌, [], length}
-use Rattle.manifest_codec.specs.Reading.{labels_at}
+use Rattle.manifest_codec.specs.FieldsRead.{labels_at}
 use Rattle.manifest_codec.proofs.labels.labels_of.Given as goal
 
 abbrev pub invariant-loop : goal.invariant-loop

@@ -1,6 +1,6 @@
 use Rattle.std.proofs.Common.{[]}
 use Rattle.std.proofs.lemmas.Result.{err_from_is_err_and}
-use Rattle.manifest_codec.specs.Reading.{parts_at}
+use Rattle.manifest_codec.specs.FieldsRead.{parts_at}
 use Rattle.manifest_codec.proofs.Loops.{parts_go_on, parts_end, parts_done}
 use Rattle.manifest_codec.proofs.parts.parts_of.Goals as goal
 

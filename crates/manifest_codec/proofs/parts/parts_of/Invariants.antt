@@ -1,5 +1,5 @@
 use Rattle.std.proofs.Common.{◌≡◌, ◌-◌, []}
-use Rattle.manifest_codec.specs.Reading.{parts_at}
+use Rattle.manifest_codec.specs.FieldsRead.{parts_at}
 use Rattle.manifest_codec.proofs.parts.parts_of.Given as goal
 
 abbrev pub invariant-loop-i : goal.invariant-loop-i

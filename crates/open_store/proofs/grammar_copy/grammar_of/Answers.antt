@@ -1,5 +1,5 @@
 use Rattle.std.proofs.Common.{◌≡◌, ℕ, ◌≤◌, List, length, take, refl, sym, ap, subst, ◌∙◌, arith}
-use Rattle.disk_model.specs.declared.form_kind.FormKind.TheVariants.{BadLabel, BadText}
+use Rattle.faults.specs.declared.form_kind.FormKind.TheVariants.{BadLabel, BadText}
 use Rattle.std.specs.Prelude.{Err}
 use Rattle.grammar_norm.specs.declared.grammar.GrammarFault.{GrammarFault}
 use Rattle.grammar_norm.specs.GrammarText.{ReadsGrammar, grammar_fault}

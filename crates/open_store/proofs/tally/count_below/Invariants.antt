@@ -1,5 +1,5 @@
 use Rattle.std.proofs.Common.{◌≡◌, ◌≤◌, take}
-use Rattle.open_store.specs.Reading.{count_below_of}
+use Rattle.open_store.specs.PartRead.{count_below_of}
 use Rattle.open_store.proofs.tally.count_below.Given as goal
 
 abbrev pub invariant-loop-born : goal.invariant-loop-born

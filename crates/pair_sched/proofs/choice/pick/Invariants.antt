@@ -1,6 +1,6 @@
 use Rattle.dest_map.specs.Table.{counts_of}
 use Rattle.pair_sched.specs.Marks.{joined_of, newest_of}
-use Rattle.pair_sched.specs.Picking.{IsBest}
+use Rattle.pair_sched.specs.Pick.{IsBest}
 use Rattle.pair_sched.proofs.choice.pick.Given as goal
 
 abbrev pub invariant-loop-i : goal.invariant-loop-i

@@ -1,7 +1,7 @@
 use Rattle.std.proofs.Common.{◌≡◌, ◌+◌, ltb, None, if◌then◌else◌, false, drop, refl, sym, ap, ◌∙◌}
 use Rattle.byteorder.specs.Endian.{little_number}
-use Rattle.disk_model.specs.declared.form_kind.FormKind.TheVariants.{BadLabel, BadVertex, BadOrder, BadBirth}
-use Rattle.partition_file.specs.Reading.{fault_of, is_known, is_above}
+use Rattle.faults.specs.declared.form_kind.FormKind.TheVariants.{BadLabel, BadVertex, BadOrder, BadBirth}
+use Rattle.partition_file.specs.FieldsRead.{fault_of, is_known, is_above}
 use Rattle.partition_file.proofs.Numbers.{edge_front, broken, kept, destination_broken, destination_kept, tail_whole}
 use Rattle.partition_file.proofs.fields.read_edge.Goals as goal
 

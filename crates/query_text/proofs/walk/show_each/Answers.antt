@@ -1,5 +1,5 @@
 use Rattle.std.proofs.Common.{◌≡◌, ℕ, [], ◌++◌, ◌+◌, ◌-◌, arith}
-use Rattle.open_store.proofs.Looking.{looks_same, looks_then}
+use Rattle.open_store.proofs.Looks.{looks_same, looks_then}
 use Rattle.query_text.specs.Answered.{IsBlamed}
 use Rattle.query_text.proofs.Showing.{cause_handed_on, gathered_fits, gathered_none, handed_on, walk_blames, walk_failed, walk_on}
 use Rattle.query_text.proofs.walk.show_each.Goals as goal

@@ -1,6 +1,6 @@
 use Rattle.std.proofs.Common.{◌≡◌, ◌≤◌, ◌+◌, ◌-◌, ◌++◌, length, List, ℕ, true}
 use Rattle.graph_words.specs.declared.types.Edge.{Edge}
-use Rattle.edge_text.specs.Feeding.{IsFeeding, AddsEdges}
+use Rattle.edge_text.specs.Feed.{IsFeeding, AddsEdges}
 use Rattle.edge_text.specs.declared.feed.TheConstants.{LONGEST_TEXT}
 use Rattle.edge_text.proofs.feed.EdgeReader.feed.Given as goal
 

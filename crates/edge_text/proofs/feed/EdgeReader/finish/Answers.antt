@@ -1,8 +1,8 @@
 use Rattle.std.proofs.Common.{◌+◌, ◌++◌, ap, sym, ◌∙◌, subst, Some, []}
-use Rattle.io_edge.specs.Cutting.{Cutting, Finishes, EndsText}
+use Rattle.io_edge.specs.Cuts.{Cutting, Finishes, EndsText}
 use Rattle.io_edge.specs.declared.step.CutStep.{CutStep}
 use Rattle.io_edge.proofs.PieceLemmas.{ended_from}
-use Rattle.edge_text.specs.Feeding.{EdgeFeed, AddsEdges}
+use Rattle.edge_text.specs.Feed.{EdgeFeed, AddsEdges}
 use Rattle.edge_text.proofs.EdgeLemmas.{AddsEdges-none}
 use Rattle.edge_text.proofs.FeedLemmas.{fed_as, feeds_end, feeds_last, feeds_last_fault, line_fault_is}
 use Rattle.edge_text.proofs.GraphLemmas.{ReadsEdges-from_says}

@@ -1,6 +1,6 @@
 use Rattle.std.proofs.Common.{◌≡◌, List, ℕ, [], ap, sym, subst}
-use Rattle.io_edge.specs.Cutting.{Cutting}
-use Rattle.edge_text.specs.Feeding.{IsFeeding}
+use Rattle.io_edge.specs.Cuts.{Cutting}
+use Rattle.edge_text.specs.Feed.{IsFeeding}
 use Rattle.edge_text.proofs.FeedLemmas.{feeds_start}
 use Rattle.edge_text.proofs.feed.EdgeReader.new.Goals as goal
 

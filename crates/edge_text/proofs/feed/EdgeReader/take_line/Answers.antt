@@ -1,9 +1,9 @@
 use Rattle.std.proofs.Common.{◌≡◌, ◌+◌, ◌++◌, ap, sym, ◌∙◌, take, subst, Some}
-use Rattle.io_edge.specs.Cutting.{Cutting, Feeds, GoesOn, EndsLine}
+use Rattle.io_edge.specs.Cuts.{Cutting, Feeds, GoesOn, EndsLine}
 use Rattle.io_edge.specs.declared.step.CutStep.{CutStep}
-use Rattle.io_edge.specs.declared.kinds.InputKind.TheVariants.{LineTooLong}
+use Rattle.faults.specs.declared.kinds.InputKind.TheVariants.{LineTooLong}
 use Rattle.io_edge.proofs.PieceLemmas.{refused_from}
-use Rattle.edge_text.specs.Feeding.{EdgeFeed, AddsEdges}
+use Rattle.edge_text.specs.Feed.{EdgeFeed, AddsEdges}
 use Rattle.edge_text.proofs.EdgeLemmas.{AddsEdges-none}
 use Rattle.edge_text.proofs.FeedLemmas.{fed_as, feeds_whole, feeds_line, feeds_fault, feeds_too_long, line_fault_is}
 use Rattle.edge_text.proofs.feed.EdgeReader.take_line.Goals as goal

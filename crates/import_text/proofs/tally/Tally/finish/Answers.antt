@@ -1,6 +1,6 @@
 use Rattle.std.proofs.Common.{sym, subst}
 use Rattle.std.proofs.lemmas.Result.{err_from_is_err_and}
-use Rattle.edge_text.specs.Feeding.{IsFed}
+use Rattle.edge_text.specs.Feed.{IsFed}
 use Rattle.import_text.specs.Tally.{Tallied, TakesEnd}
 use Rattle.import_text.proofs.TallyLemmas.{fed_on, takes_end}
 use Rattle.import_text.proofs.tally.Tally.finish.Goals as goal

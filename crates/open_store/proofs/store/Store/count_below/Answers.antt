@@ -8,10 +8,10 @@ use Rattle.partition_file.specs.declared.types.Expect.{Expect}
 use Rattle.partition_file.specs.Spelling.{first_break}
 use Rattle.store_law.specs.Listed.{part_file}
 use Rattle.open_store.specs.Store.{OpenStore, expect_in}
-use Rattle.open_store.specs.Streaming.{HasEnded, IsAt, IsTally}
-use Rattle.open_store.specs.Reading.{IsRefused, IsTold, count_below_of}
+use Rattle.open_store.specs.Stream.{HasEnded, IsAt, IsTally}
+use Rattle.open_store.specs.PartRead.{IsRefused, IsTold, count_below_of}
 use Rattle.open_store.proofs.Causes.{handed, handed_other}
-use Rattle.open_store.proofs.Looking.{looks_then}
+use Rattle.open_store.proofs.Looks.{looks_then}
 use Rattle.open_store.proofs.Parts.{ended_is_read, ended_is_refused}
 use Rattle.open_store.proofs.Tallies.{cell_few, ends_count}
 use Rattle.open_store.proofs.store.Store.count_below.Goals as goal

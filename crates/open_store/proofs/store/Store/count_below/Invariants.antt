@@ -3,9 +3,9 @@ use Rattle.std.specs.Prelude.{◌++◌}
 use Rattle.graph_words.specs.declared.types.Born.{Born}
 use Rattle.store_law.specs.Listed.{part_file}
 use Rattle.disk_model.specs.Looks.{Looks}
-use Rattle.open_store.specs.Reading.{count_below_of}
+use Rattle.open_store.specs.PartRead.{count_below_of}
 use Rattle.open_store.specs.Store.{expect_in}
-use Rattle.open_store.specs.Streaming.{IsAt, IsStream, IsTally}
+use Rattle.open_store.specs.Stream.{IsAt, IsStream, IsTally}
 use Rattle.open_store.proofs.store.Store.count_below.Given as goal
 
 abbrev pub invariant-loop-tally : goal.invariant-loop-tally

@@ -5,13 +5,13 @@ use Rattle.store_law.specs.Listed.{part_file}
 use Rattle.partition_file.specs.declared.types.Expect.{Expect}
 use Rattle.partition_file.specs.Spelling.{first_break}
 use Rattle.open_store.specs.Store.{OpenStore, expect_in}
-use Rattle.open_store.specs.Streaming.{IsAt}
+use Rattle.open_store.specs.Stream.{IsAt}
 use Rattle.graph_words.specs.declared.types.Born.{Born}
-use Rattle.disk_model.specs.declared.form_kind.FormKind.{FormKind}
-use Rattle.open_store.specs.Streaming.{HasEnded, IsTally}
-use Rattle.open_store.specs.Reading.{IsRefused, IsTold}
+use Rattle.faults.specs.declared.form_kind.FormKind.{FormKind}
+use Rattle.open_store.specs.Stream.{HasEnded, IsTally}
+use Rattle.open_store.specs.PartRead.{IsRefused, IsTold}
 use Rattle.open_store.proofs.Causes.{handed, handed_other}
-use Rattle.open_store.proofs.Looking.{looks_then}
+use Rattle.open_store.proofs.Looks.{looks_then}
 use Rattle.open_store.proofs.Parts.{ended_is_read, ended_is_refused}
 use Rattle.open_store.proofs.Tallies.{ends_count}
 use Rattle.open_store.proofs.store.Store.edges.Goals as goal

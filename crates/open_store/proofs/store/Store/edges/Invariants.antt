@@ -3,7 +3,7 @@ use Rattle.std.specs.Prelude.{◌++◌}
 use Rattle.store_law.specs.Listed.{part_file}
 use Rattle.disk_model.specs.Looks.{Looks}
 use Rattle.open_store.specs.Store.{expect_in}
-use Rattle.open_store.specs.Streaming.{IsAt, IsStream}
+use Rattle.open_store.specs.Stream.{IsAt, IsStream}
 use Rattle.open_store.proofs.store.Store.edges.Given as goal
 
 abbrev pub invariant-loop-edges : goal.invariant-loop-edges

@@ -1,6 +1,6 @@
 use Rattle.std.proofs.Common.{ap, subst, List, ℕ, []}
 use Rattle.open_store.specs.Store.{OpenStore}
-use Rattle.open_store.specs.Streaming.{IsTally}
+use Rattle.open_store.specs.Stream.{IsTally}
 use Rattle.open_store.proofs.store.Store.tally.Goals as goal
 
 pub returns : goal.returns

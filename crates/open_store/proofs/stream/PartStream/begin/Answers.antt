@@ -1,6 +1,6 @@
 use Rattle.std.proofs.Common.{◌≡◌, ◌<◌, ◌^◌, refl, ℕ, List, [], length, ap, ◌∙◌, arith}
 use Rattle.partition_file.specs.Reader.{Reader, rest_of, prepend, taken}
-use Rattle.partition_file.specs.Reading.{Found, reading}
+use Rattle.partition_file.specs.FieldsRead.{Found, reading}
 use Rattle.open_store.proofs.Parts.{no_bytes}
 use Rattle.open_store.proofs.stream.PartStream.begin.Goals as goal
 

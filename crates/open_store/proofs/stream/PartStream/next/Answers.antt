@@ -2,10 +2,10 @@ use Rattle.std.proofs.Common.{◌≡◌, ◌≤◌, ◌+◌, ◌^◌, ℕ, List,
 use Rattle.std.specs.Prelude.{None, Some}
 use Rattle.std.proofs.lemmas.List.{length-take-le}
 use Rattle.partition_file.specs.Spelling.{IsBytes, first_break}
-use Rattle.partition_file.specs.Reading.{Found, reading}
+use Rattle.partition_file.specs.FieldsRead.{Found, reading}
 use Rattle.partition_file.specs.Reader.{ReadsPiece}
 use Rattle.graph_words.specs.declared.types.Born.{Born}
-use Rattle.open_store.specs.Streaming.{HasRead, IsAt}
+use Rattle.open_store.specs.Stream.{HasRead, IsAt}
 use Rattle.open_store.proofs.Streams.{all_bytes, faulted, fed, next_bytes}
 use Rattle.open_store.proofs.stream.PartStream.next.Goals as goal
 

@@ -2,8 +2,8 @@ use Rattle.std.proofs.Common.{◌≡◌, ◌∙◌, ◌+◌, ◌++◌, ◌∷◌
 use Rattle.std.specs.Prelude.{max, slice_index_or, slice_set}
 use Rattle.std.proofs.lemmas.Bool.{cases_lt}
 use Rattle.closing_machine.specs.State.{target}
-use Rattle.open_store.specs.Streaming.{IsTally}
-use Rattle.open_store.proofs.Tallying.{counted_row, tally_in, tally_out}
+use Rattle.open_store.specs.Stream.{IsTally}
+use Rattle.open_store.proofs.TallySteps.{counted_row, tally_in, tally_out}
 use Rattle.open_store.proofs.tally.Tally.add.Goals as goal
 
 pub returns-clause-tally : goal.returns-clause-tally

@@ -1,6 +1,6 @@
 use Rattle.std.proofs.Common.{◌≡◌, ◌+◌, ◌++◌, ◌≤◌, ℕ, List, length, take, slice_index_or}
 use Rattle.graph_words.specs.declared.types.Born.{Born as ABorn}
-use Rattle.open_store.specs.Streaming.{IsTally}
+use Rattle.open_store.specs.Stream.{IsTally}
 use Rattle.open_store.proofs.tally.Tally.add_all.Given as goal
 
 abbrev pub invariant-loop-born : goal.invariant-loop-born

@@ -1,6 +1,6 @@
 use Rattle.std.proofs.Common.{◌≡◌, ◌+◌, ◌∙◌, [], take, refl, sym, ap}
 use Rattle.partition_file.specs.declared.types.Stage.TheVariants as stages
-use Rattle.partition_file.specs.Reading.{then_found}
+use Rattle.partition_file.specs.FieldsRead.{then_found}
 use Rattle.partition_file.specs.Stages.{behind_edge}
 use Rattle.partition_file.proofs.reader.RowReader.take_edge.Goals as goal
 

@@ -1,0 +1,98 @@
+use Rattle.std.proofs.Common.{◌≡◌, ℕ, ◌≤◌, List, Option, sym, subst, arith}
+use Rattle.std.specs.Prelude.{IsTrue, option_map}
+use Rattle.faults.specs.Counts.{Rose}
+use Rattle.disk_model.specs.Disk.{Contents}
+use Rattle.store_law.specs.Listed.{AreExact}
+use Rattle.store.specs.Import.{texts_of}
+use Rattle.graspan_top.specs.declared.status.Status.TheVariants.{Done}
+use Rattle.graspan_top.specs.Given.{Given}
+use Rattle.graspan_top.specs.Printed.{Begins, IsNothingOr, PrintsFirst, status_of}
+use Rattle.graspan_top.specs.Run.{IsRunBegun, IsRunText, RunExplains}
+use Rattle.graspan_top.proofs.LookLemmas.{status_at}
+use Rattle.graspan_top.proofs.ExplainLemmas.{explains_later, rose_later, show_explains}
+use Rattle.graspan_top.proofs.PrintLemmas.{nothing_first}
+use Rattle.graspan_top.proofs.ReadyLemmas.{exact_end}
+use Rattle.graspan_top.proofs.TextLemmas.{nothing_begun}
+use Rattle.graspan_top.proofs.StopLemmas.{stops_looking}
+use Rattle.graspan_top.proofs.run.run.Goals as goal
+
+pub returns-in_err-store-clause-explained : goal.returns-in_err-store-clause-explained
+returns-in_err-store-clause-explained g c =
+    let D = g.D.Disk in
+    let I = g.I.Inputs in
+    let x : Given = record { told = I.told c.args.inputs.now; tells = D.tells; before = D.seen c.args.disk.now } in
+    let edges : List ℕ = c.args.files.now.edges.now in
+    let grammar : List ℕ = c.args.files.now.grammar.now in
+    let show : Option (List ℕ) = option_map (λ l. l.now) c.args.show in
+    let er : Type 0 = Rose (I.faults c.args.inputs.now edges) (I.faults c.closed_store.new.inputs edges) in
+    let gr : Type 0 = Rose (I.faults c.args.inputs.now grammar) (I.faults c.closed_store.new.inputs grammar) in
+    let dr : Type 0 = Rose (D.faults c.args.disk.now) (D.faults c.closed_store.new.disk) in
+    let wr : Type 0 = Rose (g.O.Sink.faults c.args.out.now) (g.O.Sink.faults c.args.out.now) in
+    status_at (λ s. RunExplains x edges grammar show (D.seen c.closed_store.new.disk) er gr dr wr s) c.from_residual.result c.in_err-store.field-0.0 c.from_residual.ensures.1
+    (explains_later x edges grammar show (D.seen c.closed_store.new.disk) er gr dr ⊥ er gr dr wr (λ h. h) (λ h. h) (λ h. h) (λ h. absurd h) c.in_err-store.field-0.0 (c.in_err-store.ensures.cause show (D.seen c.closed_store.new.disk)))
+
+pub returns-in_err-store-clause-printed : goal.returns-in_err-store-clause-printed
+returns-in_err-store-clause-printed g c =
+    let D = g.D.Disk in
+    let show : Option (List ℕ) = option_map (λ l. l.now) c.args.show in
+    status_at (λ s. PrintsFirst D.tells (IsRunText (D.seen c.closed_store.new.disk) show) (g.O.Sink.told c.args.out.now) (g.O.Sink.told c.args.out.now) s) c.from_residual.result c.in_err-store.field-0.0 c.from_residual.ensures.1
+    (nothing_first D.tells (IsRunText (D.seen c.closed_store.new.disk) show) (g.O.Sink.told c.args.out.now) c.in_err-store.field-0.0 c.in_err-store.ensures.fails)
+
+pub returns-clause-explained : goal.returns-clause-explained
+returns-clause-explained g c =
+    let D = g.D.Disk in
+    let I = g.I.Inputs in
+    let O = g.O.Sink in
+    let x : Given = record { told = I.told c.args.inputs.now; tells = D.tells; before = D.seen c.args.disk.now } in
+    let edges : List ℕ = c.args.files.now.edges.now in
+    let grammar : List ℕ = c.args.files.now.grammar.now in
+    let show : Option (List ℕ) = option_map (λ l. l.now) c.args.show in
+    let mid = c.closed_store.new.disk in
+    let last = c.show_run.new.disk in
+    let er : Type 0 = Rose (I.faults c.args.inputs.now edges) (I.faults c.closed_store.new.inputs edges) in
+    let gr : Type 0 = Rose (I.faults c.args.inputs.now grammar) (I.faults c.closed_store.new.inputs grammar) in
+    let dr : Type 0 = Rose (D.faults mid) (D.faults last) in
+    let dr' : Type 0 = Rose (D.faults c.args.disk.now) (D.faults last) in
+    let wr : Type 0 = Rose (O.faults c.args.out.now) (O.faults c.show_run.new.out) in
+    let ready = c.in_ok-store.ensures.ready in
+    subst (λ (k : Contents). RunExplains x edges grammar show k er gr dr' wr (status_of c.show_run.result)) (sym c.show_run.ensures.looks.same_seen)
+    (explains_later x edges grammar show (D.seen mid) er gr dr wr er gr dr' wr (λ h. h) (λ h. h)
+    (rose_later (D.faults c.args.disk.now) (D.faults mid) (D.faults last) (D.faults last) c.closed_store.ensures.later (omega arith)) (λ h. h) (status_of c.show_run.result)
+    (show_explains x edges grammar show (D.seen mid) er gr dr wr c.in_ok-store.store ready.accepts c.in_ok-store.ensures.done ready.opened (λ tells. (ready.opened tells).held.current) (status_of c.show_run.result) c.show_run.ensures.explained))
+
+pub returns-clause-exact : goal.returns-clause-exact
+returns-clause-exact g c =
+    let D = g.D.Disk in
+    let x : Given = record { told = g.I.Inputs.told c.args.inputs.now; tells = D.tells; before = D.seen c.args.disk.now } in
+    let edges : List ℕ = c.args.files.now.edges.now in
+    let grammar : List ℕ = c.args.files.now.grammar.now in
+    let mid = c.closed_store.new.disk in
+    let looks = c.show_run.ensures.looks in
+    λ tells gt et tg te left done.
+    let both = exact_end x edges grammar (D.seen mid) (D.may_leave mid) c.in_ok-store.store c.in_ok-store.ensures.ready c.in_ok-store.ensures.done tells gt et tg te left in (
+      subst (λ (k : Contents). AreExact (texts_of gt et) k) (sym looks.same_seen) both.0,
+      λ image now. both.1 image (looks.no_more image now),
+    )
+
+pub returns-in_err-store-clause-exact : goal.returns-in_err-store-clause-exact
+returns-in_err-store-clause-exact g c =
+    λ tells gt et tg te left done.
+    absurd (status_at (λ s. s ≡ Done → ⊥) c.from_residual.result c.in_err-store.field-0.0 c.from_residual.ensures.1 c.in_err-store.ensures.fails done)
+
+pub returns-in_err-store-clause-begun : goal.returns-in_err-store-clause-begun
+returns-in_err-store-clause-begun g c =
+    let D = g.D.Disk in
+    nothing_begun D.tells (IsRunBegun (D.seen c.closed_store.new.disk) (option_map (λ l. l.now) c.args.show)) (g.O.Sink.told c.args.out.now) (status_of c.from_residual.result)
+
+pub returns-clause-begun : goal.returns-clause-begun
+returns-clause-begun g c =
+    let D = g.D.Disk in
+    let O = g.O.Sink in
+    let show : Option (List ℕ) = option_map (λ l. l.now) c.args.show in
+    subst (λ (k : Contents). Begins D.tells (IsNothingOr (IsRunBegun k show)) (O.told c.args.out.now) (O.told c.show_run.new.out) (status_of c.show_run.result)) (sym c.show_run.ensures.looks.same_seen) c.show_run.ensures.begun
+
+pub returns-clause-stops : goal.returns-clause-stops
+returns-clause-stops g c =
+    let D = g.D.Disk in
+    let L = g.met.D.Disk in
+    stops_looking D.seen D.may_leave D.moment D.left_since L.counts_now L.only_now (g.I.Inputs.told c.args.inputs.now) c.args.files.now.edges.now c.args.files.now.grammar.now c.args.disk.now c.closed_store.new.disk c.show_run.new.disk c.closed_store.ensures.stops c.show_run.ensures.looks

@@ -1,0 +1,126 @@
+//! A store of two files is made, or found and compared with them.
+ghost use Rattle.std.specs.Prelude.{◌≡◌, ◌≢◌, ◌≤◌, ℕ, List, Option, IfOk, IfErr, OnOk, IsTrue};
+ghost use Rattle.faults.specs.Counts.{Rose};
+ghost use Rattle.disk_model.specs.Disk.{Contents};
+ghost use Rattle.disk_model.specs.View.{OnlyLooks};
+ghost use Rattle.faults.specs.declared.kinds.InputFile.TheVariants.{Edges, Grammar};
+ghost use Rattle.io_edge.specs.View.{NoCountFalls};
+ghost use Rattle.open_store.specs.Answers.{copy_of};
+ghost use Rattle.graspan_top.specs.declared.status.Status.TheVariants.{Done};
+ghost use Rattle.graspan_top.specs.Faults.{of_store};
+ghost use Rattle.graspan_top.specs.Given.{Given as AGiven};
+ghost use Rattle.graspan_top.specs.Run.{BeginsWith, RunExplains};
+ghost use Rattle.graspan_top.specs.Call.{MayBeStopped};
+ghost use Rattle.graspan_top.specs.Stages.{CompareExplains, IsCopied, IsGrammarFile, IsReady};
+
+use crate::grammar_file::read_grammar_file;
+use crate::status::Status;
+use disk_model::Disk;
+use io_edge::{InputFile, Inputs};
+use std::alloc::Global;
+use store::{OpenMode, Opened, Store, StoreFault, import, open, same_input};
+
+/// The names of the two files of a run.
+#[derive(Clone, Copy)]
+pub(crate) struct Files<'a> {
+    pub(crate) edges: &'a str,
+    pub(crate) grammar: &'a str,
+}
+
+/// Compares both files with the store's copies, the grammar first.
+fn compare<I: Inputs, D: Disk>(
+    alloc: Global,
+    files: &Files<'_>,
+    inputs: &mut I,
+    disk: &mut D,
+    store: &Store,
+) -> Result<(), StoreFault>
+    ensures same_grammar { OnOk result (IsCopied (I.told inputs.old files.now.grammar.now) D.tells
+        (copy_of store.now.manifest Grammar (D.seen disk.old))) }
+    ensures same_edges { OnOk result (IsCopied (I.told inputs.old files.now.edges.now) D.tells (copy_of store.now.manifest Edges (D.seen disk.old))) }
+    ensures cause { IfErr result (CompareExplains (I.told inputs.old files.now.grammar.now)
+        (I.told inputs.old files.now.edges.now) D.tells (D.seen disk.old) store.now.manifest
+        (Rose (I.faults inputs.old files.now.grammar.now) (I.faults inputs.new files.now.grammar.now))
+        (Rose (I.faults inputs.old files.now.edges.now) (I.faults inputs.new files.now.edges.now))
+        (Rose (D.faults disk.old) (D.faults disk.new))) }
+    ensures looks { OnlyLooks D.Disk disk.old disk.new }
+    ensures kept { I.told inputs.new ≡ I.told inputs.old }
+    ensures others { NoCountFalls I.Inputs inputs.old inputs.new }
+    ensures later { D.faults disk.old ≤ D.faults disk.new }
+{
+    same_input(
+        alloc,
+        inputs,
+        files.grammar,
+        disk,
+        store,
+        InputFile::Grammar,
+    )?;
+    same_input(alloc, inputs, files.edges, disk, store, InputFile::Edges)
+}
+
+/// The store of the two files: the one that the disk holds, whose copies are compared with them, or a new one.
+fn found_or_made<I: Inputs, D: Disk>(
+    alloc: Global,
+    files: &Files<'_>,
+    grammar: &[u8],
+    limit: u64,
+    inputs: &mut I,
+    disk: &mut D,
+) -> Result<Store, StoreFault>
+    requires { IsGrammarFile (I.told inputs.old files.now.grammar.now) grammar.now }
+    ensures ready { IfOk result (IsReady (record
+        { told = I.told inputs.old; tells = D.tells; before = D.seen disk.old }) files.now.edges.now
+        files.now.grammar.now (D.seen disk.new) (D.may_leave disk.new)) }
+    ensures begins { IfOk result (λ _. IsTrue D.tells
+        → BeginsWith (record { told = I.told inputs.old; tells = D.tells; before = D.seen disk.old })
+        (D.seen disk.new)) }
+    ensures cause { IfErr result (λ fault. (show : Option (List ℕ)) (after : Contents)
+        → RunExplains (record { told = I.told inputs.old; tells = D.tells; before = D.seen disk.old })
+        files.now.edges.now files.now.grammar.now show after
+        (Rose (I.faults inputs.old files.now.edges.now) (I.faults inputs.new files.now.edges.now))
+        (Rose (I.faults inputs.old files.now.grammar.now) (I.faults inputs.new files.now.grammar.now))
+        (Rose (D.faults disk.old) (D.faults disk.new)) ⊥ (of_store fault)) }
+    ensures stops { MayBeStopped D.Disk (I.told inputs.old) files.now.edges.now files.now.grammar.now disk.old disk.new }
+    ensures kept { I.told inputs.new ≡ I.told inputs.old }
+    ensures others { NoCountFalls I.Inputs inputs.old inputs.new }
+    ensures later { D.faults disk.old ≤ D.faults disk.new }
+{
+    match open(alloc, disk, OpenMode::Change)? {
+        Opened::Blank => import(alloc, inputs, files.edges, grammar, disk, limit),
+        Opened::Found(store) => {
+            compare(alloc, files, inputs, disk, &store)?;
+            Ok(store)
+        }
+    }
+}
+
+/// The store of the two files, ready to be closed.
+pub(crate) fn ready_store<I: Inputs, D: Disk>(
+    alloc: Global,
+    files: &Files<'_>,
+    limit: u64,
+    inputs: &mut I,
+    disk: &mut D,
+) -> Result<Store, Status>
+    ensures ready { IfOk result (IsReady (record
+        { told = I.told inputs.old; tells = D.tells; before = D.seen disk.old }) files.now.edges.now
+        files.now.grammar.now (D.seen disk.new) (D.may_leave disk.new)) }
+    ensures begins { IfOk result (λ _. IsTrue D.tells
+        → BeginsWith (record { told = I.told inputs.old; tells = D.tells; before = D.seen disk.old })
+        (D.seen disk.new)) }
+    ensures cause { IfErr result (λ fault. (show : Option (List ℕ)) (after : Contents)
+        → RunExplains (record { told = I.told inputs.old; tells = D.tells; before = D.seen disk.old })
+        files.now.edges.now files.now.grammar.now show after
+        (Rose (I.faults inputs.old files.now.edges.now) (I.faults inputs.new files.now.edges.now))
+        (Rose (I.faults inputs.old files.now.grammar.now) (I.faults inputs.new files.now.grammar.now))
+        (Rose (D.faults disk.old) (D.faults disk.new)) ⊥ fault) }
+    ensures fails { IfErr result (λ fault. fault ≢ Done) }
+    ensures stops { MayBeStopped D.Disk (I.told inputs.old) files.now.edges.now files.now.grammar.now disk.old disk.new }
+    ensures kept { I.told inputs.new ≡ I.told inputs.old }
+    ensures others { NoCountFalls I.Inputs inputs.old inputs.new }
+    ensures later { D.faults disk.old ≤ D.faults disk.new }
+{
+    let grammar = read_grammar_file(alloc, inputs, files.grammar)?;
+    Ok(found_or_made(alloc, files, &grammar, limit, inputs, disk)?)
+}

@@ -1,0 +1,41 @@
+use Rattle.std.proofs.lemmas.Result.{err_from_is_err_and}
+use Rattle.disk_model.specs.Disk.{ShortenedIn}
+use Rattle.disk_model.specs.Run.{one_step, then_run}
+use Rattle.disk_model.specs.OneFile.{OnlyFile, only_refl, only_shortened, only_trans}
+use Rattle.import_text.proofs.CopyLemmas.{disk_no_text}
+use Rattle.import_text.proofs.copy.copy_edges.Goals as goal
+
+pub returns-in_err-cut-clause-any_moment : goal.returns-in_err-cut-clause-any_moment
+returns-in_err-cut-clause-any_moment g c =
+    let D = g.D.Disk in
+    let L = g.met.D.Disk in
+    one_step D.moment D.left_since D.may_leave L.counts_now L.only_now c.args.disk.now c.cut.new.self (OnlyFile c.args.file) (ShortenedIn c.args.file 0) (only_refl c.args.file) c.cut.ensures.time c.cut.ensures.crash (λ d x image short. only_shortened c.args.file 0 d x short)
+
+pub copy_pieces-requires-clause-empty : goal.copy_pieces-requires-clause-empty
+copy_pieces-requires-clause-empty g c = λ tells. (c.in_ok-cut.ensures.cut tells).here
+
+pub returns-in_err-cut-clause-fault : goal.returns-in_err-cut-clause-fault
+returns-in_err-cut-clause-fault g c =
+    let p = err_from_is_err_and c.from_residual-in_err-cut.result c.from_residual-in_err-cut.ensures.1 in
+    rw p.1 (λ line kind text names e. absurd (disk_no_text p.0 line kind p.2 e))
+
+pub returns-in_err-len-clause-fault : goal.returns-in_err-len-clause-fault
+returns-in_err-len-clause-fault g c =
+    let p = err_from_is_err_and c.from_residual-in_err-len.result c.from_residual-in_err-len.ensures.1 in
+    rw (p.1, p.2) (λ line kind file names e t s. c.in_err-len.ensures.fault line kind file names e t (c.in_ok-tally.ensures.names names s))
+
+pub returns-in_err-len-clause-any_moment : goal.returns-in_err-len-clause-any_moment
+returns-in_err-len-clause-any_moment g c =
+    let D = g.D.Disk in
+    let L = g.met.D.Disk in
+    then_run D.moment D.left_since D.may_leave L.counts_now L.only_now c.args.disk.now c.cut.new.self c.copy_pieces.new.disk (OnlyFile c.args.file) (OnlyFile c.args.file) (OnlyFile c.args.file)
+    (one_step D.moment D.left_since D.may_leave L.counts_now L.only_now c.args.disk.now c.cut.new.self (OnlyFile c.args.file) (ShortenedIn c.args.file 0) (only_refl c.args.file) c.cut.ensures.time c.cut.ensures.crash (λ d x image short. only_shortened c.args.file 0 d x short))
+    c.copy_pieces.ensures.any_moment (λ d x only. only) (λ d m x image image' first next. only_trans c.args.file d m x first next)
+
+pub returns-clause-any_moment : goal.returns-clause-any_moment
+returns-clause-any_moment g c =
+    let D = g.D.Disk in
+    let L = g.met.D.Disk in
+    then_run D.moment D.left_since D.may_leave L.counts_now L.only_now c.args.disk.now c.cut.new.self c.copy_pieces.new.disk (OnlyFile c.args.file) (OnlyFile c.args.file) (OnlyFile c.args.file)
+    (one_step D.moment D.left_since D.may_leave L.counts_now L.only_now c.args.disk.now c.cut.new.self (OnlyFile c.args.file) (ShortenedIn c.args.file 0) (only_refl c.args.file) c.cut.ensures.time c.cut.ensures.crash (λ d x image short. only_shortened c.args.file 0 d x short))
+    c.copy_pieces.ensures.any_moment (λ d x only. only) (λ d m x image image' first next. only_trans c.args.file d m x first next)

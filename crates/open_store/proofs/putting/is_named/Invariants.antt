@@ -1,5 +1,0 @@
-use Rattle.std.proofs.Common.{◌≢◌, take, All}
-use Rattle.open_store.proofs.putting.is_named.Given as goal
-
-abbrev pub invariant-loop-part : goal.invariant-loop-part
-invariant-loop-part l = All (λ p. p.file ≢ l.file) (take l.part-index l.parts)

@@ -1,0 +1,114 @@
+//! The partitions of a new store are made and put, one after the other.
+ghost use Rattle.std.specs.Prelude.{◌≡◌, ◌+◌, ◌<◌, ◌≤◌, ℕ, IsTrue, IfOk, OnOk, All, length};
+ghost use Rattle.normal_law.specs.NormalForm.{normal_form};
+ghost use Rattle.disk_model.specs.View.{LeavesBy, OnlyLooks};
+ghost use Rattle.partition_file.specs.Spelling.{Fits};
+ghost use Rattle.import_text.specs.Given.{AreGiven};
+ghost use Rattle.import_text.specs.GivenPart.{IsGoodCopy, expect_given};
+ghost use Rattle.open_store.specs.Answers.{HasDiskCause};
+ghost use Rattle.store.specs.NewStore.{IsBeside, IsBuilt, MayPut, SameTexts, blames_copy, graph_in};
+
+use crate::counts::count_edges;
+use crate::source::{EDGES_FILE, Source, of_text};
+use crate::tables::Tables;
+use dest_map::DestMap;
+use disk_model::{Disk, rewrite};
+use import_text::given_edges;
+use intervals::Intervals;
+use manifest_codec::{PartEntry, PartList};
+use open_store::StoreFault;
+use partition_file::{Partition, encode};
+use std::alloc::Global;
+
+/// The file of the first partition.
+const FIRST_FILE: u32 = 4;
+
+// The partition of the vertices of an interval with which a closing begins.
+fn given_part<D: Disk>(
+    alloc: Global,
+    disk: &mut D,
+    source: &Source,
+    lo: u32,
+    hi: u32,
+) -> Result<Partition, StoreFault>
+    requires bounds { lo < hi }
+    requires below { hi ≤ source.now.copied.vertices }
+    requires vertices { source.now.copied.vertices ≤ 16777216 }
+    requires rules { All (λ r. r.left.0 < length source.now.copied.labels) source.now.normal }
+    requires good { IsTrue D.tells → IsGoodCopy source.now.copied.labels source.now.copied.len source.now.copied.vertices (D.seen disk.old 3) }
+    ensures fits { IfOk result (Fits (expect_given lo hi source.now.copied.vertices
+        (length source.now.copied.labels) (normal_form source.now.normal).fresh)) }
+    ensures given { IsTrue D.tells → IfOk result
+        (λ p. AreGiven (normal_form source.now.normal) (graph_in source.now (D.seen disk.old)) lo hi p.edges) }
+    ensures looks { OnlyLooks D.Disk disk.old disk.new }
+    ensures later { D.faults disk.old ≤ D.faults disk.new }
+    ensures cause { HasDiskCause (D.faults disk.old) (D.faults disk.new) (blames_copy (IsTrue D.tells)) result }
+{
+    let copied = &source.copied;
+    match given_edges(
+        alloc,
+        disk,
+        EDGES_FILE,
+        copied.len,
+        &copied.labels,
+        &source.normal,
+        copied.vertices,
+        lo,
+        hi,
+    ) {
+        Ok(part) => Ok(part),
+        Err(fault) => Err(of_text(fault)),
+    }
+}
+
+// Makes and puts the next partition.
+fn put_next<D: Disk>(
+    alloc: Global,
+    disk: &mut D,
+    source: &Source,
+    intervals: &Intervals,
+    i: usize,
+    tables: &mut Tables,
+) -> Result<(), StoreFault>
+    requires i { i < length intervals.now }
+    requires may { MayPut source.now intervals.now (IsTrue D.tells) (D.seen disk.old) }
+    requires built { IsBuilt source.now intervals.now (IsTrue D.tells) (D.seen disk.old) i tables.old }
+    ensures built { OnOk result (IsBuilt source.now intervals.now (IsTrue D.tells) (D.seen disk.new) (i + 1) tables.new) }
+    ensures texts { IsTrue D.tells → OnOk result (SameTexts (D.seen disk.old) (D.seen disk.new)) }
+    ensures any_moment { LeavesBy D.Disk disk.old disk.new IsBeside }
+    ensures later { D.faults disk.old ≤ D.faults disk.new }
+    ensures cause { HasDiskCause (D.faults disk.old) (D.faults disk.new) (blames_copy (IsTrue D.tells)) result }
+{
+    let (lo, hi) = intervals.bounds(i);
+    let part = given_part(alloc, disk, source, lo, hi)?;
+    count_edges(&mut tables.map, intervals, i, part.edges());
+    let file = FIRST_FILE + i as u32;
+    let bytes = encode(alloc, &part)?;
+    rewrite(disk, file, &bytes)?;
+    tables.parts.push(PartEntry { hi, file })?;
+    Ok(())
+}
+
+/// Makes the partitions with which a closing begins, one in memory at a time, and puts number `i` into file 4 + i.
+pub(crate) fn put_parts<D: Disk>(
+    alloc: Global,
+    disk: &mut D,
+    source: &Source,
+    intervals: &Intervals,
+) -> Result<Tables, StoreFault>
+    requires may { MayPut source.now intervals.now (IsTrue D.tells) (D.seen disk.old) }
+    ensures built { IfOk result (IsBuilt source.now intervals.now (IsTrue D.tells) (D.seen disk.new) (length intervals.now)) }
+    ensures texts { IsTrue D.tells → IfOk result (λ _. SameTexts (D.seen disk.old) (D.seen disk.new)) }
+    ensures any_moment { LeavesBy D.Disk disk.old disk.new IsBeside }
+    ensures later { D.faults disk.old ≤ D.faults disk.new }
+    ensures cause { HasDiskCause (D.faults disk.old) (D.faults disk.new) (blames_copy (IsTrue D.tells)) result }
+{
+    let mut tables = Tables {
+        parts: PartList::new(alloc),
+        map: DestMap::zero(alloc, intervals.len())?,
+    };
+    for i in 0..intervals.len() {
+        put_next(alloc, disk, source, intervals, i, &mut tables)?;
+    }
+    Ok(tables)
+}
