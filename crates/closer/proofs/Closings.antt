@@ -2,6 +2,9 @@
 use Rattle.std.proofs.Common.{◌≡◌, ℕ, ◌+◌, ◌<◌, ◌≤◌, Bool, List, length, take, refl, sym, ap, ◌∙◌, subst, arith, inl, inr}
 use Rattle.std.specs.Prelude.{All, IsTrue, Result, Ok, Err}
 use Rattle.std.proofs.lemmas.List.{take_all}
+use Rattle.faults.specs.Counts.{Rose}
+use Rattle.faults.specs.Reasons.{HasReason, disk_causes}
+use Rattle.store_fault.specs.Faults.{why_of}
 use Rattle.graph_words.specs.declared.types.Rule.{Rule}
 use Rattle.normal_law.specs.NormalForm.{normal_form}
 use Rattle.closing_machine.specs.State.{IsPick}
@@ -17,9 +20,8 @@ use Rattle.manifest_switch.specs.Slots.{other}
 use Rattle.manifest_switch.specs.Steps.{IsSwitched}
 use Rattle.store_law.specs.Left.{IsDone}
 use Rattle.store_law.specs.Listed.{ends_of}
-use Rattle.open_store.specs.declared.fault.StoreFault.{StoreFault}
-use Rattle.open_store.specs.declared.fault.StoreFault.TheVariants.{BadStore, DiskFault, InputFault, NoMemory, OtherInput, ReadFault}
-use Rattle.open_store.specs.Answers.{HasDiskCause}
+use Rattle.store_fault.specs.declared.fault.StoreFault.{StoreFault}
+use Rattle.store_fault.specs.declared.fault.StoreFault.TheVariants.{BadStore, DiskFault, InputFault, NoMemory, OtherInput, ReadFault}
 use Rattle.open_store.specs.Store.{IsHeldAlone, IsOpenStore, OpenStore}
 use Rattle.closer.specs.Continuation.{Continues, HasWork}
 use Rattle.closer.specs.Answers.{BlamesPicked, IsClosed, IsStepped}
@@ -30,7 +32,7 @@ use Rattle.closer.proofs.LawLemmas.{continues_further}
 use Rattle.closer.proofs.StepLemmas.{among_turned}
 
 -- the cause of a later part is one of the whole
-pub cause_more : {T : Type 0} (before mid now : ℕ) (bad worse : ℕ → ℕ → FormKind → Type 0) (r : Result T StoreFault) → before ≤ mid → ((f p : ℕ) (k : FormKind) → bad f p k → worse f p k) → HasDiskCause mid now bad r → HasDiskCause before now worse r
+pub cause_more : {T : Type 0} (before mid now : ℕ) (bad worse : ℕ → ℕ → FormKind → Type 0) (r : Result T StoreFault) → before ≤ mid → ((f p : ℕ) (k : FormKind) → bad f p k → worse f p k) → HasReason why_of (disk_causes (Rose mid now) bad) r → HasReason why_of (disk_causes (Rose before now) worse) r
 cause_more before mid now bad worse (Ok x) le more h = h
 cause_more before mid now bad worse (Err DiskFault) le more h = omega (arith, le, h)
 cause_more before mid now bad worse (Err (BadStore f p k)) le more h = more f p k h

@@ -18,7 +18,7 @@ use Rattle.manifest_codec.specs.declared.types.PartEntry.{PartEntry}
 use Rattle.manifest_codec.specs.declared.types.Manifest.{Manifest}
 use Rattle.store_law.specs.Listed.{ends_of, part_file}
 use Rattle.store_law.specs.Steps.{IsFree}
-use Rattle.open_store.specs.declared.fault.StoreFault.{StoreFault}
+use Rattle.store_fault.specs.declared.fault.StoreFault.{StoreFault}
 use Rattle.open_store.specs.PartRead.{count_into}
 use Rattle.open_store.specs.Stream.{IsTally}
 use Rattle.open_store.specs.Store.{OpenStore}

@@ -1,9 +1,10 @@
 //! Changed partitions are put into free files.
 ghost use Rattle.std.specs.Prelude.{◌≡◌, ◌≢◌, ◌<◌, ◌≤◌, IsTrue, true, false, All, Contains, IfOk, length};
+ghost use Rattle.faults.specs.Reasons.{HasReason, blames_none};
+ghost use Rattle.store_fault.specs.Faults.{why_of};
 ghost use Rattle.graph_words.specs.declared.types.Born.{Born as ABorn};
-ghost use Rattle.disk_model.specs.View.{LeavesBy};
+ghost use Rattle.disk_model.specs.View.{LeavesBy, on_disk};
 ghost use Rattle.pair_sched.specs.Marks.{newest_of};
-ghost use Rattle.open_store.specs.Answers.{HasDiskCause, blames_none};
 ghost use Rattle.closer.specs.NextManifest.{ArePut, IsWell, MayPut, MayPutPair, Puts, Replaces, Spares, TakesOn};
 
 use crate::next_manifest::{file_for, with_file, with_row};
@@ -67,7 +68,7 @@ pub(crate) fn put_changed<D: Disk>(
     ensures puts { IsTrue D.tells → IfOk result (λ after. Puts store.now.manifest i part.now next after (D.seen disk.old) (D.seen disk.new)) }
     ensures any_moment { LeavesBy D.Disk disk.old disk.new (Spares store.now.manifest) }
     ensures later { D.faults disk.old ≤ D.faults disk.new }
-    ensures cause { HasDiskCause (D.faults disk.old) (D.faults disk.new) blames_none result }
+    ensures cause { HasReason why_of (on_disk D.Disk disk.old disk.new blames_none) result }
 {
     if !has_new(part.edges(), store.manifest().round) {
         return Ok(next);
@@ -94,7 +95,7 @@ pub(crate) fn put_pair<D: Disk>(
         (D.seen disk.old) after (D.seen disk.new)) }
     ensures any_moment { LeavesBy D.Disk disk.old disk.new (Spares store.now.manifest) }
     ensures later { D.faults disk.old ≤ D.faults disk.new }
-    ensures cause { HasDiskCause (D.faults disk.old) (D.faults disk.new) blames_none result }
+    ensures cause { HasReason why_of (on_disk D.Disk disk.old disk.new blames_none) result }
 {
     let next = put_changed(alloc, disk, store, next, low, &ran.low)?;
     match &ran.high {

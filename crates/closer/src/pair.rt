@@ -1,11 +1,12 @@
 //! One or two partitions are loaded, and rounds are run on them.
 ghost use Rattle.std.specs.Prelude.{◌≡◌, ◌⊎◌, ◌^◌, ◌<◌, ◌≤◌, ℕ, IsTrue, true, IfOk, length};
-ghost use Rattle.disk_model.specs.View.{OnlyLooks};
+ghost use Rattle.faults.specs.Reasons.{HasReason};
+ghost use Rattle.store_fault.specs.Faults.{why_of};
+ghost use Rattle.disk_model.specs.View.{OnlyLooks, on_disk};
 ghost use Rattle.normal_law.specs.NormalForm.{normal_form};
 ghost use Rattle.dest_map.specs.Table.{counts_of};
 ghost use Rattle.pair_sched.specs.Marks.{joined_of};
 ghost use Rattle.manifest_codec.specs.Spelling.{Fits};
-ghost use Rattle.open_store.specs.Answers.{HasDiskCause};
 ghost use Rattle.partition_file.specs.Spelling.{IsPart};
 ghost use Rattle.superstep.specs.Ends.{is_closed, rounds_of};
 ghost use Rattle.closer.specs.NextManifest.{ArePairIn, AreRun, AreSpelled, BlamesPair, IfHigh, IsLeastMarkIn};
@@ -41,7 +42,7 @@ pub(crate) fn load_pair<D: Disk>(
     ensures spelled { IsTrue D.tells → IfOk result (λ p. AreSpelled store.now (D.seen disk.old) low high p.0 p.1) }
     ensures looks { OnlyLooks D.Disk disk.old disk.new }
     ensures later { D.faults disk.old ≤ D.faults disk.new }
-    ensures cause { HasDiskCause (D.faults disk.old) (D.faults disk.new) (BlamesPair store.now D.tells (D.seen disk.old) low high) result }
+    ensures cause { HasReason why_of (on_disk D.Disk disk.old disk.new (BlamesPair store.now D.tells (D.seen disk.old) low high)) result }
 {
     let first = store.load(alloc, disk, low)?;
     if low == high {

@@ -1,9 +1,10 @@
 //! One step of closing.
 ghost use Rattle.std.specs.Prelude.{◌≡◌, ◌<◌, ◌≤◌, IfOk, length};
+ghost use Rattle.faults.specs.Reasons.{HasReason};
+ghost use Rattle.store_fault.specs.Faults.{why_of};
 ghost use Rattle.disk_model.specs.Disk.{Contents};
-ghost use Rattle.disk_model.specs.View.{LeavesBy};
+ghost use Rattle.disk_model.specs.View.{LeavesBy, on_disk};
 ghost use Rattle.dest_map.specs.Table.{counts_of};
-ghost use Rattle.open_store.specs.Answers.{HasDiskCause};
 ghost use Rattle.open_store.specs.Store.{IsHeldAlone};
 ghost use Rattle.store_law.specs.Left.{IsDone};
 ghost use Rattle.closer.specs.Answers.{BlamesPicked, IfAgain, IfFinished, IsStepped, Moves};
@@ -49,7 +50,7 @@ fn close_pair<D: Disk>(
     ensures next { IfOk result (IsNext store.now D.tells (D.seen disk.old) (D.seen disk.new) i j) }
     ensures any_moment { LeavesBy D.Disk disk.old disk.new (Spares store.now.manifest) }
     ensures later { D.faults disk.old ≤ D.faults disk.new }
-    ensures cause { HasDiskCause (D.faults disk.old) (D.faults disk.new) (BlamesPair store.now D.tells (D.seen disk.old) i j) result }
+    ensures cause { HasReason why_of (on_disk D.Disk disk.old disk.new (BlamesPair store.now D.tells (D.seen disk.old) i j)) result }
 {
     let (low, high) = in_order(i, j);
     let (first, second) = load_pair(alloc, disk, store, low, high)?;
@@ -87,7 +88,7 @@ pub fn step<D: Disk>(
     ensures again { IfOk result (λ r. IfAgain r (IsStepped D.tells (D.seen disk.old) store (D.seen disk.new) (D.may_leave disk.new))) }
     ensures any_moment { LeavesBy D.Disk disk.old disk.new (Moves store (D.seen disk.old)) }
     ensures later { D.faults disk.old ≤ D.faults disk.new }
-    ensures cause { HasDiskCause (D.faults disk.old) (D.faults disk.new) (BlamesPicked store D.tells (D.seen disk.old)) result }
+    ensures cause { HasReason why_of (on_disk D.Disk disk.old disk.new (BlamesPicked store D.tells (D.seen disk.old))) result }
 {
     let manifest = store.manifest();
     let Some((i, j)) = pick(&manifest.map, &manifest.marks) else {

@@ -1,9 +1,10 @@
 //! Steps of closing until no pair has work left.
 ghost use Rattle.std.specs.Prelude.{◌≡◌, ◌≤◌, IfOk};
+ghost use Rattle.faults.specs.Reasons.{HasReason};
+ghost use Rattle.store_fault.specs.Faults.{why_of};
 ghost use Rattle.disk_model.specs.Disk.{Contents};
-ghost use Rattle.disk_model.specs.View.{LeavesBy};
+ghost use Rattle.disk_model.specs.View.{LeavesBy, on_disk};
 ghost use Rattle.store_law.specs.Left.{IsDone};
-ghost use Rattle.open_store.specs.Answers.{HasDiskCause};
 ghost use Rattle.open_store.specs.Store.{IsHeldAlone};
 ghost use Rattle.closer.specs.Answers.{BlamesOnTheWay, IsClosed, Moves};
 
@@ -31,7 +32,7 @@ pub fn run_to_end<D: Disk>(
     ensures rest { IsDone store.manifest → IfOk result (λ s. (s ≡ store) × (disk.new ≡ disk.old)) }
     ensures any_moment { LeavesBy D.Disk disk.old disk.new (Moves store (D.seen disk.old)) }
     ensures later { D.faults disk.old ≤ D.faults disk.new }
-    ensures cause { HasDiskCause (D.faults disk.old) (D.faults disk.new) (BlamesOnTheWay store D.tells (D.seen disk.old)) result }
+    ensures cause { HasReason why_of (on_disk D.Disk disk.old disk.new (BlamesOnTheWay store D.tells (D.seen disk.old))) result }
 {
     // The manifest keeps its rules, also where no step is made.
     let _manifest = store.manifest();

@@ -1,5 +1,8 @@
 -- What a call makes of a disk, in words that take the disk whole: its trait, and how it is before and after.
-use Rattle.std.specs.Prelude.{◌≤◌}
+use Rattle.std.specs.Prelude.{ℕ}
+use Rattle.faults.specs.declared.form_kind.FormKind.{FormKind}
+use Rattle.faults.specs.Counts.{Rose}
+use Rattle.faults.specs.Reasons.{Causes, disk_causes}
 use Rattle.disk_model.specs.declared.disk.Disk as disk
 use Rattle.disk_model.specs.Disk.{Contents}
 use Rattle.disk_model.specs.Crash.{LeavesJust, LeavesOnly, From}
@@ -16,3 +19,11 @@ LeavesBy d old new step = LeavesOnly d.moment d.left_since old new (From (d.may_
 -- a crash now leaves just what a read gives
 abbrev pub IsDurable : {D : Type 0} → disk.Ghosts D → D → Type 0
 IsDurable d now = LeavesJust (d.seen now) (d.may_leave now)
+
+-- the disk's count of faults rose
+abbrev pub DiskRose : {D : Type 0} → disk.Ghosts D → D → D → Type 0
+DiskRose d old new = Rose (d.faults old) (d.faults new)
+
+-- why a call of the disk alone has no answer: its count rose, or a file of it is blamed for this
+abbrev pub on_disk : {D : Type 0} → disk.Ghosts D → D → D → (ℕ → ℕ → FormKind → Type 0) → Causes
+on_disk d old new bad = disk_causes (DiskRose d old new) bad

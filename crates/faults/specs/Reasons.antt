@@ -1,8 +1,9 @@
 -- Why a call has no answer: each reason there is, and what it means.
-use Rattle.std.specs.Prelude.{ℕ, List, Result, Ok, Err}
+use Rattle.std.specs.Prelude.{◌≡◌, ℕ, Result, Ok, Err}
 use Rattle.faults.specs.declared.kinds.InputFile.{InputFile}
 use Rattle.faults.specs.declared.kinds.InputKind.{InputKind}
 use Rattle.faults.specs.declared.form_kind.FormKind.{FormKind}
+use Rattle.faults.specs.declared.form_kind.FormKind.TheVariants.{BadText}
 
 pub data Why : Type 0 where
   -- a read of an input, a call of the disk, or a write failed
@@ -78,6 +79,17 @@ no_cause =
 -- no file is blamed
 abbrev pub blames_none : ℕ → ℕ → FormKind → Type 0
 blames_none file place kind = ⊥
+
+-- any may be: that is said elsewhere
+abbrev pub blames_any : ℕ → ℕ → FormKind → Type 0
+blames_any file place kind = Unit {0}
+
+-- the copy of a text in this file is blamed, for what P says
+pub record BlamesText (P : Type 0) (copy file place : ℕ) (kind : FormKind) : Type 0 where
+  pub file_is : file ≡ copy
+  pub place_is : place ≡ 0
+  pub kind_is : kind ≡ BadText
+  pub why : P
 
 -- the disk's count rose, or a file of it is blamed
 abbrev pub disk_causes : Type 0 → (ℕ → ℕ → FormKind → Type 0) → Causes

@@ -1,6 +1,8 @@
 -- Why a run answers as it does, from what its steps say.
 use Rattle.std.proofs.Common.{◌≡◌, ◌⊎◌, inl, inr, ℕ, ◌≤◌, List, length, Option, Some, Ok, Err, refl, sym, ap, subst, ◌∙◌, arith}
 use Rattle.std.specs.Prelude.{IsTrue, Bool, Result, IfErr, IsErrAnd}
+use Rattle.faults.specs.Reasons.{HasReason, disk_causes}
+use Rattle.store_fault.specs.Faults.{why_of}
 use Rattle.faults.specs.Counts.{Rose}
 use Rattle.faults.specs.declared.kinds.InputFile.TheVariants.{Grammar, Edges, Source, Proof, Questions}
 use Rattle.edge_text.specs.EdgesText.{edges_fault}
@@ -13,9 +15,9 @@ use Rattle.manifest_switch.specs.declared.slot.Found.TheVariants.{At, Blank}
 use Rattle.manifest_switch.specs.Slots.{current_of}
 use Rattle.manifest_switch.specs.Steps.{Stays}
 use Rattle.store_law.specs.Left.{IsDone}
-use Rattle.open_store.specs.declared.fault.StoreFault.{StoreFault}
-use Rattle.open_store.specs.declared.fault.StoreFault.TheVariants as stores
-use Rattle.open_store.specs.Answers.{DiffersFirst, HasDiskCause, copy_of}
+use Rattle.store_fault.specs.declared.fault.StoreFault.{StoreFault}
+use Rattle.store_fault.specs.declared.fault.StoreFault.TheVariants as stores
+use Rattle.open_store.specs.Answers.{DiffersFirst, copy_of}
 use Rattle.open_store.specs.Opened.{IsBadStore}
 use Rattle.open_store.specs.Store.{OpenStore}
 use Rattle.store.specs.Import.{HasImportCause}
@@ -78,7 +80,7 @@ module _ (x : Given) (edges grammar : List ℕ) where
     good_file f told = subst IsGoodGrammar (file.is_file f told) file.good
 
     -- opening is refused
-    pub open_explains : (T : Type 0) (show : Option (List ℕ)) (after : Contents) (er gr wr : Type 0) (before now : ℕ) (bad : ℕ → ℕ → FormKind → Type 0) → ((f p : ℕ) (k : FormKind) → bad f p k → IsTrue x.tells → IsBadStore x.before f p k) → (f : StoreFault) → HasDiskCause {T = T} before now bad (Err f) → RunExplains x edges grammar show after er gr (Rose before now) wr (of_store f)
+    pub open_explains : (T : Type 0) (show : Option (List ℕ)) (after : Contents) (er gr wr : Type 0) (before now : ℕ) (bad : ℕ → ℕ → FormKind → Type 0) → ((f p : ℕ) (k : FormKind) → bad f p k → IsTrue x.tells → IsBadStore x.before f p k) → (f : StoreFault) → HasReason {T = T} why_of (disk_causes (Rose before now) bad) (Err f) → RunExplains x edges grammar show after er gr (Rose before now) wr (of_store f)
     open_explains T show after er gr wr before now bad why stores.ReadFault h = absurd h
     open_explains T show after er gr wr before now bad why stores.DiskFault h = (good_file, h)
     open_explains T show after er gr wr before now bad why (stores.InputFault file line kind) h = absurd h
@@ -134,7 +136,7 @@ module _ (x : Given) (edges grammar : List ℕ) where
   good_of (inr old) g told = (old.same_grammar g told).0
 
   -- the closing is refused
-  close_explains : (T : Type 0) → Accepts x edges grammar → (show : Option (List ℕ)) (after : Contents) (er gr wr : Type 0) (before now : ℕ) (seen : Contents) (s : OpenStore) → (IsTrue x.tells → BeginsWith x seen) → (IsTrue x.tells → IsOpenedAs x edges grammar seen s) → (f : StoreFault) → HasDiskCause {T = T} before now (BlamesOnTheWay s x.tells seen) (Err f) → RunExplains x edges grammar show after er gr (Rose before now) wr (of_store f)
+  close_explains : (T : Type 0) → Accepts x edges grammar → (show : Option (List ℕ)) (after : Contents) (er gr wr : Type 0) (before now : ℕ) (seen : Contents) (s : OpenStore) → (IsTrue x.tells → BeginsWith x seen) → (IsTrue x.tells → IsOpenedAs x edges grammar seen s) → (f : StoreFault) → HasReason {T = T} why_of (disk_causes (Rose before now) (BlamesOnTheWay s x.tells seen)) (Err f) → RunExplains x edges grammar show after er gr (Rose before now) wr (of_store f)
   close_explains T a show after er gr wr before now seen s from begun stores.ReadFault h = absurd h
   close_explains T a show after er gr wr before now seen s from begun stores.DiskFault h = (good_of a, h)
   close_explains T a show after er gr wr before now seen s from begun (stores.InputFault file line kind) h = absurd h
@@ -142,9 +144,9 @@ module _ (x : Given) (edges grammar : List ℕ) where
   close_explains T a show after er gr wr before now seen s from begun (stores.BadStore f p k) h = (good_of a, λ tells. closing seen s (from tells) (begun tells) (subst (λ (b : Bool). BlamesOnTheWay s b seen f p k) tells h))
   close_explains T a show after er gr wr before now seen s from begun stores.NoMemory h = tt
 
-  pub close_handed : (T : Type 0) → Accepts x edges grammar → (show : Option (List ℕ)) (after : Contents) (er gr dr' wr : Type 0) (before now : ℕ) (seen : Contents) (s : OpenStore) → (IsTrue x.tells → BeginsWith x seen) → (IsTrue x.tells → IsOpenedAs x edges grammar seen s) → (Rose before now → dr') → (r : Result T StoreFault) (f : StoreFault) → r ≡ Err f → HasDiskCause before now (BlamesOnTheWay s x.tells seen) r → RunExplains x edges grammar show after er gr dr' wr (of_store f)
+  pub close_handed : (T : Type 0) → Accepts x edges grammar → (show : Option (List ℕ)) (after : Contents) (er gr dr' wr : Type 0) (before now : ℕ) (seen : Contents) (s : OpenStore) → (IsTrue x.tells → BeginsWith x seen) → (IsTrue x.tells → IsOpenedAs x edges grammar seen s) → (Rose before now → dr') → (r : Result T StoreFault) (f : StoreFault) → r ≡ Err f → HasReason why_of (disk_causes (Rose before now) (BlamesOnTheWay s x.tells seen)) r → RunExplains x edges grammar show after er gr dr' wr (of_store f)
   close_handed T a show after er gr dr' wr before now seen s from begun more r f was h =
-      explains_later show after er gr (Rose before now) wr er gr dr' wr (λ k. k) (λ k. k) more (λ k. k) (of_store f) (close_explains T a show after er gr wr before now seen s from begun f (subst (HasDiskCause before now (BlamesOnTheWay s x.tells seen)) was h))
+      explains_later show after er gr (Rose before now) wr er gr dr' wr (λ k. k) (λ k. k) more (λ k. k) (of_store f) (close_explains T a show after er gr wr before now seen s from begun f (subst (HasReason why_of (disk_causes (Rose before now) (BlamesOnTheWay s x.tells seen))) was h))
 
   pub show_explains : (show : Option (List ℕ)) (after : Contents) (er gr dr wr : Type 0) (s : OpenStore) → Accepts x edges grammar → IsDone s.manifest → (IsTrue x.tells → IsOpenedAs x edges grammar after s) → (IsTrue x.tells → current_of after ≡ Ok (At s.slot s.manifest)) → (status : Status) → ShowExplains s x.tells after show dr wr status → RunExplains x edges grammar show after er gr dr wr status
   show_explains show after er gr dr wr s a done begun current Done h = a

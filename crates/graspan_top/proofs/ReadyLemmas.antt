@@ -20,7 +20,7 @@ use Rattle.store_law.proofs.Exact.{exact_store}
 use Rattle.store_law.proofs.Keeping.{beside_slots, imported_store, stays_left}
 use Rattle.open_store.specs.Answers.{copy_of}
 use Rattle.open_store.specs.Opened.{IsOpened, IsOpenedAlone}
-use Rattle.open_store.specs.declared.fault.StoreFault.{StoreFault}
+use Rattle.store_fault.specs.declared.fault.StoreFault.{StoreFault}
 use Rattle.open_store.specs.Store.{IsHeld, IsHeldAlone, OpenStore}
 use Rattle.store.specs.Import.{IsImportOf, IsNewStore, texts_of}
 use Rattle.closer.specs.Continuation.{Continues}

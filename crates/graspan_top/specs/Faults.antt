@@ -1,8 +1,8 @@
 -- The faults of words, stores and answers as statuses.
 use Rattle.command_words.specs.declared.fault.WordsFault.{WordsFault}
 use Rattle.command_words.specs.declared.fault.WordsFault.TheVariants as words
-use Rattle.open_store.specs.declared.fault.StoreFault.{StoreFault}
-use Rattle.open_store.specs.declared.fault.StoreFault.TheVariants as stores
+use Rattle.store_fault.specs.declared.fault.StoreFault.{StoreFault}
+use Rattle.store_fault.specs.declared.fault.StoreFault.TheVariants as stores
 use Rattle.query_text.specs.declared.fault.AnswerFault.{AnswerFault}
 use Rattle.query_text.specs.declared.fault.AnswerFault.TheVariants as answers
 use Rattle.graspan_top.specs.declared.status.Status.{Status}

@@ -9,8 +9,8 @@ use Rattle.disk_model.specs.Crash.{LeavesJust}
 use Rattle.manifest_codec.specs.declared.types.Manifest.{Manifest}
 use Rattle.open_store.specs.Answers.{DiffersFirst, copy_of}
 use Rattle.open_store.specs.Store.{IsHeldAlone, OpenStore}
-use Rattle.open_store.specs.declared.fault.StoreFault.{StoreFault}
-use Rattle.open_store.specs.declared.fault.StoreFault.TheVariants as stores
+use Rattle.store_fault.specs.declared.fault.StoreFault.{StoreFault}
+use Rattle.store_fault.specs.declared.fault.StoreFault.TheVariants as stores
 use Rattle.manifest_switch.specs.declared.slot.Found.TheVariants.{Blank}
 use Rattle.manifest_switch.specs.Slots.{current_of}
 use Rattle.open_store.specs.Opened.{IsBadStore}

@@ -13,9 +13,10 @@ use Rattle.import_text.specs.Tally.{Tallied, TakesPiece, TakesEnd}
 use Rattle.faults.specs.declared.kinds.InputKind.{InputKind}
 use Rattle.edge_text.specs.declared.edges.EdgesFault.{EdgesFault}
 use Rattle.edge_text.specs.declared.edges.EdgesFault.TheVariants as edges
-use Rattle.import_text.specs.declared.fault.TextFault.{TextFault}
-use Rattle.import_text.specs.declared.fault.TextFault.TheVariants as faults
-use Rattle.import_text.specs.Copy.{CopiesBehind, HasCauseIn, copying_fault}
+use Rattle.faults.specs.Reasons.{Holds, Implies}
+use Rattle.edge_text.specs.EdgesText.{edges_fault}
+use Rattle.store_fault.specs.Faults.{of_edges, why_of}
+use Rattle.import_text.specs.Copy.{CopiesBehind, copy_causes}
 use Rattle.import_text.proofs.DegreeLemmas.{AreDegrees-none, AreDegrees-then}
 
 -- bytes that are written at the end
@@ -32,24 +33,31 @@ written_at_end file (b ∷ bytes) at end =
     ∙ ap (λ (l : List ℕ). (file ++ b ∷ bytes) ++ l) (drop_all (at + length (b ∷ bytes)) file past)
     ∙ append-nil (file ++ b ∷ bytes)
 
--- a fault of the text is one that the reader found
-pub copying_text : (f : EdgesFault) (line : ℕ) (kind : InputKind) → copying_fault f ≡ faults.Text line kind → f ≡ edges.Text line kind
-copying_text edges.ReadFailed line kind is = absurd (cc)
-copying_text (edges.Text l k) line kind is = cc
-copying_text edges.NoMemory line kind is = absurd (cc)
+-- a reader that reads nothing itself leaves no cause open but the first fault of the text
+pub reader_cause : (read_rose disk_rose : Type 0) (P : List (List ℕ) → Type 0) (told : Option (List ℕ)) (f : EdgesFault) → f ≢ edges.ReadFailed
+    → ((line : ℕ) (kind : InputKind) → f ≡ edges.Text line kind → (text : List ℕ) (names : List (List ℕ)) → told ≡ Some text → P names
+    → edges_fault 0 names text ≡ Some (record { line = line; kind = kind }))
+    → Holds (copy_causes read_rose disk_rose P told) (why_of (of_edges f))
+reader_cause read_rose disk_rose P told edges.ReadFailed not_read first = absurd (not_read refl)
+reader_cause read_rose disk_rose P told (edges.Text line kind) not_read first = (refl, first line kind refl)
+reader_cause read_rose disk_rose P told edges.NoMemory not_read first = tt
 
--- a disk that failed is no fault of the text
-pub disk_no_text : (f : TextFault) (line : ℕ) (kind : InputKind) → f ≡ faults.DiskFault → f ≡ faults.Text line kind → ⊥
-disk_no_text faults.ReadFault line kind failed is = absurd (cc)
-disk_no_text faults.DiskFault line kind failed is = absurd (cc)
-disk_no_text (faults.Text l k) line kind failed is = absurd (cc)
-disk_no_text _ line kind failed is = absurd (cc)
-
--- a reader that reads nothing itself leaves no cause open
-pub copying_cause : (f : EdgesFault) (reads reads' calls calls' : ℕ) → f ≢ edges.ReadFailed → HasCauseIn reads reads' calls calls' (copying_fault f)
-copying_cause edges.ReadFailed reads reads' calls calls' not_read = absurd (not_read refl)
-copying_cause (edges.Text l k) reads reads' calls calls' not_read = tt
-copying_cause edges.NoMemory reads reads' calls calls' not_read = tt
+-- a cause in a part of the call is one in the whole
+pub copy_more : (read_rose disk_rose risen : Type 0) (P Q : List (List ℕ) → Type 0) (told : Option (List ℕ)) → (disk_rose → risen)
+    → ((names : List (List ℕ)) → Q names → P names) → Implies (copy_causes read_rose disk_rose P told) (copy_causes read_rose risen Q told)
+copy_more read_rose disk_rose risen P Q told later names_are =
+    record {
+      reads = λ h. h;
+      disk = later;
+      writes = λ h. h;
+      text = λ file line kind h. (h.0, λ text names t q. h.1 text names t (names_are names q));
+      other = λ file place h. h;
+      bad = λ file place kind h. h;
+      words = λ h. h;
+      none = λ h. h;
+      left = λ i j h. h;
+      unknown = λ h. h;
+    }
 
 -- the text so far is read and stored, and its edges so far are counted
 pub record IsCopying (P : List ℕ → Type 0) (tells : Type 0) (file : ℕ) (first now : Tallied) (old new : Contents) (text : List ℕ) (front : List Edge) : Type 0 where

@@ -10,10 +10,11 @@ use Rattle.edge_text.specs.Feed.{IsFed}
 use Rattle.edge_text.proofs.FeedLemmas.{IsReadTo, reads_start, reads_on}
 use Rattle.disk_model.specs.Disk.{Contents, Reads}
 use Rattle.disk_model.specs.Looks.{Looks}
-use Rattle.import_text.specs.declared.fault.TextFault.TheVariants as faults
+use Rattle.faults.specs.Reasons.{BlamesText, Holds, disk_causes}
+use Rattle.store_fault.specs.Faults.{why_of}
 use Rattle.import_text.specs.Given.{AddsJust, IsAboveIn}
 use Rattle.import_text.specs.Gathered.{Gathered, Gathers, GathersPiece, GathersEnd}
-use Rattle.import_text.specs.GivenPart.{reading_fault, GathersFile, HasCauseOn}
+use Rattle.import_text.specs.GivenPart.{GathersFile, copy_fault}
 use Rattle.import_text.proofs.DegreeLemmas.{vertex_count_of-append}
 use Rattle.import_text.proofs.GivenLemmas.{AddsJust-then, above_none, above_append}
 
@@ -48,15 +49,12 @@ pub gives_from_reads : (file : List ℕ) (at : ℕ) (buf : List ℕ) (n : ℕ) �
 gives_from_reads file at buf n r = record { within = omega (arith, r.count); bytes = r.bytes; some = λ room more. omega (arith, r.count, room, more) }
 
 -- ---- faults
-pub bad_text : (f : EdgesFault) → reading_fault f ≡ faults.BadCopy → (line : ℕ) × (kind : InputKind) × (f ≡ edges.Text line kind)
-bad_text edges.ReadFailed is = absurd (cc)
-bad_text (edges.Text line kind) is = (line, kind, refl)
-bad_text edges.NoMemory is = absurd (cc)
-
-pub reading_cause : (f : EdgesFault) (calls calls' : ℕ) → f ≢ edges.ReadFailed → HasCauseOn calls calls' (reading_fault f)
-reading_cause edges.ReadFailed calls calls' not_read = absurd (not_read refl)
-reading_cause (edges.Text line kind) calls calls' not_read = tt
-reading_cause edges.NoMemory calls calls' not_read = tt
+-- a reader that reads nothing itself leaves no cause open but that the copy's text has a fault
+pub copy_cause : (rose P : Type 0) (file : ℕ) (f : EdgesFault) → f ≢ edges.ReadFailed → ((line : ℕ) (kind : InputKind) → f ≡ edges.Text line kind → P)
+    → Holds (disk_causes rose (BlamesText P file)) (why_of (copy_fault file f))
+copy_cause rose P file edges.ReadFailed not_read bad = absurd (not_read refl)
+copy_cause rose P file (edges.Text line kind) not_read bad = record { file_is = refl; place_is = refl; kind_is = refl; why = bad line kind refl }
+copy_cause rose P file edges.NoMemory not_read bad = tt
 
 -- ---- gathering
 pub Gathers-none : (n : Normal) (a : Gathered) → Gathers n [] a a

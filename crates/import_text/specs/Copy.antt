@@ -2,21 +2,12 @@
 use Rattle.std.specs.Prelude.{◌≡◌, ℕ, ◌<◌, ◌≤◌, ◌^◌, List, length, Option, Some}
 use Rattle.std.specs.List.{sum}
 use Rattle.graph_words.specs.declared.types.Edge.{Edge}
-use Rattle.edge_text.specs.declared.edges.EdgesFault.{EdgesFault}
-use Rattle.edge_text.specs.declared.edges.EdgesFault.TheVariants as edges
-use Rattle.edge_text.specs.EdgesText.{ReadsEdges}
-use Rattle.faults.specs.Counts.{Rose}
+use Rattle.faults.specs.Reasons.{Causes, no_cause}
+use Rattle.faults.specs.declared.kinds.InputFile.TheVariants.{Edges}
+use Rattle.edge_text.specs.EdgesText.{ReadsEdges, edges_fault}
 use Rattle.disk_model.specs.Disk.{Contents, Sets}
-use Rattle.import_text.specs.declared.fault.TextFault.{TextFault}
-use Rattle.import_text.specs.declared.fault.TextFault.TheVariants as faults
 use Rattle.import_text.specs.Degrees.{AreDegrees}
 use Rattle.import_text.specs.declared.copy.Copied.{Copied}
-
--- the fault of a copy whose text was read with this fault
-abbrev pub copying_fault : EdgesFault → TextFault
-copying_fault edges.ReadFailed = faults.ReadFault
-copying_fault (edges.Text line kind) = faults.Text line kind
-copying_fault edges.NoMemory = faults.NoMemory
 
 -- A text without a fault was read behind these names; it is the file where that is told, and all that the disk's file has where that is told.
 -- It has this length, and its edges, by the numbers of the labels, begin so often at each vertex.
@@ -39,9 +30,13 @@ pub record AreFew (c : Copied) : Type 0 where
   pub vertices : c.vertices ≤ 16777216
   pub all : sum c.degrees.items < 2 ^ 64
 
--- the fault has its cause: the count of the input's faults rose, or that of the disk's; the copy is never blamed
-abbrev pub HasCauseIn : ℕ → ℕ → ℕ → ℕ → TextFault → Type 0
-HasCauseIn reads reads' calls calls' faults.ReadFault = Rose reads reads'
-HasCauseIn reads reads' calls calls' faults.DiskFault = Rose calls calls'
-HasCauseIn reads reads' calls calls' faults.BadCopy = ⊥
-HasCauseIn reads reads' calls calls' _ = Unit {0}
+-- why an edge file was not copied: the count of its name rose, or the disk's, or the file, where it is told, has
+-- this first fault behind the names of which P speaks
+abbrev pub copy_causes : Type 0 → Type 0 → (List (List ℕ) → Type 0) → Option (List ℕ) → Causes
+copy_causes read_rose disk_rose P told =
+    record no_cause {
+      reads = read_rose;
+      disk = disk_rose;
+      text = λ file line kind. (file ≡ Edges) × ((text : List ℕ) (names : List (List ℕ)) → told ≡ Some text → P names
+          → edges_fault 0 names text ≡ Some (record { line = line; kind = kind }));
+    }

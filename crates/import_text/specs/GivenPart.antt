@@ -3,22 +3,22 @@ use Rattle.std.specs.Prelude.{◌≡◌, ℕ, ◌≤◌, ◌↔◌, List, length
 use Rattle.graph_words.specs.declared.types.Edge.{Edge}
 use Rattle.graph_words.specs.Reach.{graph_with}
 use Rattle.normal_law.specs.Closure.{Normal}
+use Rattle.faults.specs.declared.form_kind.FormKind.TheVariants.{BadText}
 use Rattle.edge_text.specs.declared.edges.EdgesFault.{EdgesFault}
 use Rattle.edge_text.specs.declared.edges.EdgesFault.TheVariants as edges
 use Rattle.edge_text.specs.EdgesText.{ReadsEdges, edges_of, vertex_count_of}
-use Rattle.faults.specs.Counts.{Rose}
 use Rattle.partition_file.specs.declared.types.Expect.{Expect}
 use Rattle.partition_file.specs.Spelling.{Part}
-use Rattle.import_text.specs.declared.fault.TextFault.{TextFault}
-use Rattle.import_text.specs.declared.fault.TextFault.TheVariants as faults
+use Rattle.store_fault.specs.declared.fault.StoreFault.{StoreFault}
+use Rattle.store_fault.specs.declared.fault.StoreFault.TheVariants.{BadStore, DiskFault, NoMemory}
 use Rattle.import_text.specs.Given.{AreGiven, IsAboveIn}
 use Rattle.import_text.specs.Gathered.{Gathered, Gathers}
 
--- the fault of a copy that was read with this fault
-abbrev pub reading_fault : EdgesFault → TextFault
-reading_fault edges.ReadFailed = faults.DiskFault
-reading_fault (edges.Text line kind) = faults.BadCopy
-reading_fault edges.NoMemory = faults.NoMemory
+-- the fault of the copy in this file that was read with this fault
+abbrev pub copy_fault : ℕ → EdgesFault → StoreFault
+copy_fault file edges.ReadFailed = DiskFault
+copy_fault file (edges.Text line kind) = BadStore file 0 BadText
+copy_fault file edges.NoMemory = NoMemory
 
 -- A text without a fault was read behind these names, which is the file where that is told. It has this length, and what its edges give was added.
 pub record GathersFile (n : Normal) (names : List (List ℕ)) (tells : Type 0) (file : List ℕ) (len : ℕ) (old new : Gathered) : Type 0 where
@@ -53,10 +53,3 @@ pub record GivesPart (n : Normal) (labels : List (List ℕ)) (len vertices lo hi
 -- what a partition has to keep with which a closing begins
 abbrev pub expect_given : ℕ → ℕ → ℕ → ℕ → ℕ → Expect
 expect_given lo hi vertices named fresh = record { lo = lo; hi = hi; vertices = vertices; round = 1; named = named; fresh = fresh }
-
--- the fault has its cause: the count of the disk's faults rose; input and text are never blamed
-abbrev pub HasCauseOn : ℕ → ℕ → TextFault → Type 0
-HasCauseOn calls calls' faults.DiskFault = Rose calls calls'
-HasCauseOn calls calls' faults.ReadFault = ⊥
-HasCauseOn calls calls' (faults.Text line kind) = ⊥
-HasCauseOn calls calls' _ = Unit {0}

@@ -1,21 +1,21 @@
 //! An edge file is checked and copied to a disk in one pass.
-ghost use Rattle.std.specs.Prelude.{◌≡◌, ◌≢◌, ◌<◌, ◌≤◌, ◌^◌, ℕ, List, [], Some, true, IsTrue, IfOk, IfErr, OnOk, length};
+ghost use Rattle.std.specs.Prelude.{◌≡◌, ◌≢◌, ◌<◌, ◌≤◌, ◌^◌, ℕ, List, [], true, IsTrue, IfOk, OnOk, length};
 ghost use Rattle.std.specs.List.{sum};
-ghost use Rattle.faults.specs.declared.kinds.InputKind.{InputKind as AKind};
-ghost use Rattle.io_edge.specs.View.{NoCountFalls};
+ghost use Rattle.faults.specs.Reasons.{HasReason};
+ghost use Rattle.io_edge.specs.View.{NoCountFalls, ReadRose};
 ghost use Rattle.graph_words.specs.Text.{distinct};
-ghost use Rattle.edge_text.specs.EdgesText.{edges_fault};
 ghost use Rattle.edge_text.specs.Feed.{IsFed};
-ghost use Rattle.disk_model.specs.View.{LeavesBy};
+ghost use Rattle.disk_model.specs.View.{DiskRose, LeavesBy};
 ghost use Rattle.disk_model.specs.OneFile.{OnlyFile};
-ghost use Rattle.import_text.specs.Copy.{CopiesFile, CopiesBehind, AreFew, HasCauseIn};
+ghost use Rattle.store_fault.specs.Faults.{why_of};
+ghost use Rattle.import_text.specs.Copy.{AreFew, CopiesBehind, CopiesFile, copy_causes};
 
-use crate::fault::TextFault;
 use crate::tally::Tally;
 use disk_model::Disk;
 use io_edge::Inputs;
 use label_table::LabelTable;
 use std::alloc::Global;
+use store_fault::StoreFault;
 
 /// How many bytes are read at a time.
 pub(crate) const PIECE_LEN: usize = 65_536;
@@ -23,6 +23,8 @@ pub(crate) const PIECE_LEN: usize = 65_536;
 /// What an edge file was found to hold while it was copied.
 #[derive(Drop)]
 pub struct Copied {
+    /// The number of the file that it was copied to.
+    pub file: u32,
     /// Its length in bytes.
     pub len: u64,
     /// One more than the greatest vertex on an edge, and 0 where there is no edge.
@@ -41,7 +43,7 @@ fn copy_pieces<I: Inputs, D: Disk>(
     file: u32,
     tally: &mut Tally,
     piece: &mut [u8],
-) -> Result<u64, TextFault>
+) -> Result<u64, StoreFault>
     requires file { file < 1024 }
     requires empty { IsTrue D.tells → D.seen disk.old file ≡ [] }
     requires new { (tally.old.reader.place ≡ 0) × (tally.old.reader.is_open ≡ true) × (tally.old.degrees ≡ []) }
@@ -51,10 +53,8 @@ fn copy_pieces<I: Inputs, D: Disk>(
         → CopiesBehind names (I.told inputs.old name.now) (IsTrue D.tells) file (D.seen disk.old)
         (D.seen disk.new) len tally.new.degrees tally.new.reader.table) }
     ensures few { OnOk result ((length tally.new.degrees ≤ 16777216) × (sum tally.new.degrees < 2 ^ 64)) }
-    ensures fault { IfErr result (λ e. (line : ℕ) (kind : AKind) (text : List ℕ) (names : List (List ℕ)) → e ≡ TextFault.Text line kind
-        → I.told inputs.old name.now ≡ Some text → IsFed 0 names [] tally.old.reader []
-        → edges_fault 0 names text ≡ Some (record { line = line; kind = kind })) }
-    ensures cause { IfErr result (HasCauseIn (I.faults inputs.old name.now) (I.faults inputs.new name.now) (D.faults disk.old) (D.faults disk.new)) }
+    ensures cause { HasReason why_of (copy_causes (ReadRose I.Inputs inputs.old inputs.new name.now) (DiskRose D.Disk disk.old disk.new)
+        (λ names. IsFed 0 names [] tally.old.reader []) (I.told inputs.old name.now)) result }
     ensures any_moment { LeavesBy D.Disk disk.old disk.new (OnlyFile file) }
     ensures kept { I.told inputs.new ≡ I.told inputs.old }
     ensures others { NoCountFalls I.Inputs inputs.old inputs.new }
@@ -81,7 +81,7 @@ fn copy_pieces<I: Inputs, D: Disk>(
 /// Whatever it answers, a crash at any moment since the start leaves all other files of the disk as they were. There is
 /// no sync.
 ///
-/// `ReadFault` and `DiskFault` come only where a count of faults rose, `Text` with the file's first fault, and
+/// `ReadFault` and `DiskFault` come only where a count of faults rose, `InputFault` with the file's first fault, and
 /// `NoMemory` for want of memory.
 pub fn copy_edges<I: Inputs, D: Disk>(
     alloc: Global,
@@ -90,15 +90,15 @@ pub fn copy_edges<I: Inputs, D: Disk>(
     table: LabelTable,
     disk: &mut D,
     file: u32,
-) -> Result<Copied, TextFault>
+) -> Result<Copied, StoreFault>
     requires file { file < 1024 }
     requires table { length table ≤ 1000 }
     ensures copied { IfOk result (λ copied. (names : List (List ℕ)) → table ≡ distinct names
         → CopiesFile names (I.told inputs.old name.now) (IsTrue D.tells) file (D.seen disk.old) (D.seen disk.new) copied) }
     ensures few { IfOk result AreFew }
-    ensures fault { IfErr result (λ e. (line : ℕ) (kind : AKind) (text : List ℕ) (names : List (List ℕ)) → e ≡ TextFault.Text line kind
-        → I.told inputs.old name.now ≡ Some text → table ≡ distinct names → edges_fault 0 names text ≡ Some (record { line = line; kind = kind })) }
-    ensures cause { IfErr result (HasCauseIn (I.faults inputs.old name.now) (I.faults inputs.new name.now) (D.faults disk.old) (D.faults disk.new)) }
+    ensures file { IfOk result (λ copied. copied.file ≡ file) }
+    ensures cause { HasReason why_of (copy_causes (ReadRose I.Inputs inputs.old inputs.new name.now) (DiskRose D.Disk disk.old disk.new)
+        (λ names. table ≡ distinct names) (I.told inputs.old name.now)) result }
     ensures any_moment { LeavesBy D.Disk disk.old disk.new (OnlyFile file) }
     ensures kept { I.told inputs.new ≡ I.told inputs.old }
     ensures others { NoCountFalls I.Inputs inputs.old inputs.new }
@@ -110,6 +110,7 @@ pub fn copy_edges<I: Inputs, D: Disk>(
     let len = copy_pieces(inputs, name, disk, file, &mut tally, &mut piece)?;
     let (degrees, labels) = tally.into_parts();
     Ok(Copied {
+        file,
         len,
         vertices: degrees.len() as u32,
         degrees,

@@ -3,7 +3,6 @@
 
 mod copy;
 mod degrees;
-mod fault;
 mod gathered;
 mod given;
 mod laws;
@@ -12,6 +11,5 @@ mod given_part;
 mod tally;
 
 pub use copy::{Copied, copy_edges};
-pub use fault::TextFault;
 pub use laws::copies_are_good;
 pub use given_part::given_edges;

@@ -11,7 +11,9 @@ use Rattle.faults.specs.declared.form_kind.FormKind.TheVariants.{Generations}
 use Rattle.manifest_switch.specs.declared.slot.OpenFault.{OpenFault}
 use Rattle.manifest_switch.specs.declared.slot.OpenFault.TheVariants.{DiskFault, BadStore, NoMemory}
 use Rattle.manifest_switch.specs.Slots.{chosen, later_of, bad_body, next_generation}
-use Rattle.manifest_switch.specs.Answers.{AnswersSlot, AnswersCurrent, HasOpenCause}
+use Rattle.faults.specs.Counts.{Rose}
+use Rattle.faults.specs.Reasons.{HasReason, blames_any, disk_causes}
+use Rattle.manifest_switch.specs.Answers.{AnswersSlot, AnswersCurrent, why_not_open}
 
 abbrev Said : Type 0
 Said = Option (Result Manifest ManifestFault)
@@ -47,13 +49,13 @@ second_bad NoMemory first a b before said = said
 second_bad (BadStore file place kind) first a b before said =
     ap (λ (s : Said). chosen s b) (said_first Zero a first before) ∙ ap (λ (s : Said). chosen (option_map Ok first) s) said.1 ∙ second_blamed first said.0 ∙ ap fault (sym said.2)
 
-no_fault_later : (before now : ℕ) (a b : Manifest) (same after : Bool) → HasOpenCause before now (if same then Err (BadStore 1 5 Generations) else if after then Ok (At One b) else Ok (At Zero a))
+no_fault_later : (before now : ℕ) (a b : Manifest) (same after : Bool) → HasReason why_not_open (disk_causes (Rose before now) blames_any) (if same then Err (BadStore 1 5 Generations) else if after then Ok (At One b) else Ok (At Zero a))
 no_fault_later before now a b true after = record {}
 no_fault_later before now a b false true = record {}
 no_fault_later before now a b false false = record {}
 
 -- what is current has no disk fault in it
-pub no_disk_fault : (before now : ℕ) (a b : Said) → HasOpenCause before now (chosen a b)
+pub no_disk_fault : (before now : ℕ) (a b : Said) → HasReason why_not_open (disk_causes (Rose before now) blames_any) (chosen a b)
 unfolding chosen later_of
 no_disk_fault before now None None = record {}
 no_disk_fault before now None (Some (Ok b)) = record {}

@@ -1,6 +1,6 @@
 -- What reading the slots answers.
 use Rattle.std.specs.Prelude.{◌≡◌, ℕ, ◌+◌, true, false, List, length, Option, Some, None, Result, Ok, Err}
-use Rattle.faults.specs.Counts.{Rose}
+use Rattle.faults.specs.Reasons.{Why, broken, disk_failed, no_memory}
 use Rattle.faults.specs.declared.form_kind.FormKind.TheVariants.{Short}
 use Rattle.manifest_codec.specs.declared.types.Manifest.{Manifest}
 use Rattle.manifest_codec.specs.declared.types.ManifestFault.{ManifestFault}
@@ -17,10 +17,11 @@ abbrev pub HoldsFit : Found → Type 0
 HoldsFit Blank = Unit {0}
 HoldsFit (At s m) = Fits m
 
--- a disk fault comes only where the count rose
-abbrev pub HasOpenCause : {T : Type 0} → ℕ → ℕ → Result T OpenFault → Type 0
-HasOpenCause before now (Err DiskFault) = Rose before now
-HasOpenCause before now _ = Unit {0}
+-- the reason of each fault
+abbrev pub why_not_open : OpenFault → Why
+why_not_open DiskFault = disk_failed
+why_not_open (BadStore file place kind) = broken file place kind
+why_not_open NoMemory = no_memory
 
 -- what was asked for, unless disk or memory failed. No bytes are blamed.
 abbrev pub Gives : {T : Type 0} → Result T OpenFault → (T → Type 0) → Type 0

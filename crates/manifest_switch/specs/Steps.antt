@@ -1,6 +1,6 @@
 -- What the parts of a commit make of an image, and what they ask of it.
 use Rattle.std.specs.Prelude.{◌≡◌, ◌≢◌, ◌⊎◌, ℕ, false, Option, Some, None, Result, Ok, Err}
-use Rattle.faults.specs.Counts.{Rose}
+use Rattle.faults.specs.Reasons.{Why, disk_failed, no_memory}
 use Rattle.disk_model.specs.Disk.{Contents}
 use Rattle.disk_model.specs.Crash.{From}
 use Rattle.manifest_codec.specs.declared.types.Manifest.{Manifest}
@@ -73,8 +73,7 @@ abbrev pub target_of : Option Slot → Slot
 target_of None = Zero
 target_of (Some s) = other s
 
--- a disk fault comes only where the count rose
-abbrev pub HasFaultCause : {T : Type 0} → ℕ → ℕ → Result T SwitchFault → Type 0
-HasFaultCause before now (Ok x) = Unit {0}
-HasFaultCause before now (Err DiskFault) = Rose before now
-HasFaultCause before now (Err NoMemory) = Unit {0}
+-- the reason of each fault
+abbrev pub why_not_switched : SwitchFault → Why
+why_not_switched DiskFault = disk_failed
+why_not_switched NoMemory = no_memory

@@ -4,12 +4,13 @@ ghost use Rattle.std.specs.Prelude.{true, false, length, take, drop, Option, Som
 ghost use Rattle.std.specs.Prelude.{IfSome, option_map};
 ghost use Rattle.faults.specs.Counts.{HasCause};
 ghost use Rattle.disk_model.specs.Disk.{Contents};
-ghost use Rattle.disk_model.specs.View.{OnlyLooks};
+ghost use Rattle.disk_model.specs.View.{OnlyLooks, on_disk};
+ghost use Rattle.faults.specs.Reasons.{HasReason, blames_any};
 ghost use Rattle.manifest_codec.specs.FieldsRead.{reading};
 ghost use Rattle.manifest_codec.specs.Spelling.{Fits};
 ghost use Rattle.manifest_switch.specs.declared.slot.Slot.{Slot};
 ghost use Rattle.manifest_switch.specs.Slots.{file_of, is_open, value_of, open_body, body, chosen, later_of, next_generation, current_of};
-ghost use Rattle.manifest_switch.specs.Answers.{HoldsFit, HasOpenCause, Gives, IsCutShort, AnswersOpen, AnswersSlot, AnswersCurrent};
+ghost use Rattle.manifest_switch.specs.Answers.{HoldsFit, why_not_open, Gives, IsCutShort, AnswersOpen, AnswersSlot, AnswersCurrent};
 
 use crate::gates::OPEN;
 use crate::slot::{Found, OpenFault, Slot};
@@ -31,7 +32,7 @@ fn front_of<D: Disk>(
     ensures front { IsTrue D.tells → Gives result (λ v. v.items ≡ take size (drop 1 (D.seen disk.old (file_of slot)))) }
     ensures looks { OnlyLooks D.Disk disk.old disk.new }
     ensures later { D.faults disk.old ≤ D.faults disk.new }
-    ensures cause { HasOpenCause (D.faults disk.old) (D.faults disk.new) result }
+    ensures cause { HasReason why_not_open (on_disk D.Disk disk.old disk.new blames_any) result }
 {
     let mut bytes = vec![in alloc; 0; size as usize]?;
     let n = disk.read(slot.file(), 1, &mut bytes)?;
@@ -51,7 +52,7 @@ fn front_says<D: Disk>(
     ensures says { IsTrue D.tells → Gives result (λ r. r ≡ value_of (reading (take size (drop 1 (D.seen disk.old (file_of slot)))))) }
     ensures looks { OnlyLooks D.Disk disk.old disk.new }
     ensures later { D.faults disk.old ≤ D.faults disk.new }
-    ensures cause { HasOpenCause (D.faults disk.old) (D.faults disk.new) result }
+    ensures cause { HasReason why_not_open (on_disk D.Disk disk.old disk.new blames_any) result }
 {
     let bytes = front_of(alloc, disk, slot, size)?;
     match decode(alloc, &bytes) {
@@ -89,7 +90,7 @@ fn body_of<D: Disk>(
     ensures says { IsTrue D.tells → Gives result (λ r. r ≡ body (D.seen disk.old (file_of slot))) }
     ensures looks { OnlyLooks D.Disk disk.old disk.new }
     ensures later { D.faults disk.old ≤ D.faults disk.new }
-    ensures cause { HasOpenCause (D.faults disk.old) (D.faults disk.new) result }
+    ensures cause { HasReason why_not_open (on_disk D.Disk disk.old disk.new blames_any) result }
 {
     more_bytes_change_nothing();
     let mut size = all.min(FIRST_PIECE);
@@ -139,7 +140,7 @@ fn slot_of<D: Disk>(alloc: Global, disk: &mut D, slot: Slot) -> Result<Option<Ma
     ensures slot { IsTrue D.tells → AnswersSlot slot (open_body (D.seen disk.old (file_of slot))) result }
     ensures looks { OnlyLooks D.Disk disk.old disk.new }
     ensures later { D.faults disk.old ≤ D.faults disk.new }
-    ensures cause { HasOpenCause (D.faults disk.old) (D.faults disk.new) result }
+    ensures cause { HasReason why_not_open (on_disk D.Disk disk.old disk.new blames_any) result }
 {
     let Some(all) = open_len(disk, slot)? else {
         return Ok(None);
@@ -211,7 +212,7 @@ pub fn current<D: Disk>(alloc: Global, disk: &mut D) -> Result<Found, OpenFault>
     ensures found { IsTrue D.tells → AnswersCurrent (current_of (D.seen disk.old)) result }
     ensures looks { OnlyLooks D.Disk disk.old disk.new }
     ensures later { D.faults disk.old ≤ D.faults disk.new }
-    ensures cause { HasOpenCause (D.faults disk.old) (D.faults disk.new) result }
+    ensures cause { HasReason why_not_open (on_disk D.Disk disk.old disk.new blames_any) result }
 {
     let first = slot_of(alloc, disk, Slot::Zero)?;
     let second = slot_of(alloc, disk, Slot::One)?;

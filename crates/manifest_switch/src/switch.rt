@@ -3,13 +3,14 @@ ghost use Rattle.std.specs.Prelude.{◌≡◌, ◌≢◌, ◌⊎◌, ◌+◌, �
 ghost use Rattle.std.specs.Prelude.{length, Option, Some, None, Ok, Err, OnOk, IfOk, IsErrOf};
 ghost use Rattle.disk_model.specs.Disk.{Contents};
 ghost use Rattle.disk_model.specs.Crash.{LeavesOnly};
-ghost use Rattle.disk_model.specs.View.{IsDurable};
+ghost use Rattle.disk_model.specs.View.{IsDurable, on_disk};
+ghost use Rattle.faults.specs.Reasons.{HasReason, blames_none};
 ghost use Rattle.manifest_codec.specs.Spelling.{Fits};
 ghost use Rattle.manifest_codec.specs.declared.types.Manifest.{Manifest};
 ghost use Rattle.manifest_switch.specs.declared.slot.Slot.{Slot};
 ghost use Rattle.manifest_switch.specs.declared.slot.SwitchFault.TheVariants.{NoMemory};
 ghost use Rattle.manifest_switch.specs.Slots.{file_of, other, is_open, IsBlank, HasOnly, next_generation};
-ghost use Rattle.manifest_switch.specs.Steps.{Succeeds, IsAmid, IsPlaced, IsSwitched, HasFaultCause, target_of};
+ghost use Rattle.manifest_switch.specs.Steps.{Succeeds, IsAmid, IsPlaced, IsSwitched, target_of, why_not_switched};
 
 use crate::gates::{close_gate, open_gate, write_body};
 use crate::slot::{Slot, SwitchFault};
@@ -32,12 +33,17 @@ fn replace<D: Disk>(
     ensures synced { OnOk result (IsDurable D.Disk disk.new) }
     ensures memory { IsErrOf result NoMemory → disk.new ≡ disk.old }
     ensures later { D.faults disk.old ≤ D.faults disk.new }
-    ensures cause { HasFaultCause (D.faults disk.old) (D.faults disk.new) result }
+    ensures cause { HasReason why_not_switched (on_disk D.Disk disk.old disk.new blames_none) result }
 {
     spelling_is_read();
+    // All memory is taken first, so that its want leaves the disk as it was.
     let body = encode(alloc, next)?;
+    // The body is written only behind a gate that is closed for good: behind an open one a crash would leave half of it
+    // as the current manifest.
     close_gate(disk, slot)?;
+    // It is synced before the gate is written, since a crash may keep a later write and lose an earlier one.
     write_body(disk, slot, &body)?;
+    // One byte makes it current: a crash leaves the old byte or the new one.
     open_gate(disk, slot)?;
     Ok(())
 }
@@ -75,7 +81,7 @@ pub fn switch<D: Disk>(
     ensures synced { IfOk result (λ _. IsDurable D.Disk disk.new) }
     ensures memory { IsErrOf result NoMemory → disk.new ≡ disk.old }
     ensures later { D.faults disk.old ≤ D.faults disk.new }
-    ensures cause { HasFaultCause (D.faults disk.old) (D.faults disk.new) result }
+    ensures cause { HasReason why_not_switched (on_disk D.Disk disk.old disk.new blames_none) result }
 {
     match from {
         None => {
@@ -84,6 +90,8 @@ pub fn switch<D: Disk>(
         }
         Some(old) => {
             replace(alloc, disk, old.other(), next)?;
+            // Last, since until then the old slot is what a crash falls back to; and at all, since the next switch
+            // writes there, where no gate may be open.
             close_gate(disk, old)?;
             Ok(old.other())
         }

@@ -1,6 +1,8 @@
 -- What was found in the slots, and the slot beside.
 use Rattle.std.proofs.Common.{◌≡◌, ◌≢◌, ℕ, ◌≤◌, List, refl, sym, ap, subst, ◌∙◌, arith}
 use Rattle.std.specs.Prelude.{Result, Ok, Err, IsErrAnd, IsTrue, Bool}
+use Rattle.faults.specs.Counts.{Rose}
+use Rattle.faults.specs.Reasons.{HasReason, blames_any, disk_causes}
 use Rattle.disk_model.specs.Disk.{Contents}
 use Rattle.disk_model.specs.Crash.{Elapses, From, LeavesOnly, NoMore}
 use Rattle.disk_model.specs.Run.{no_step, then_no_more, then_run}
@@ -11,31 +13,27 @@ use Rattle.manifest_switch.specs.declared.slot.Found.{Found}
 use Rattle.manifest_switch.specs.declared.slot.Found.TheVariants.{Blank}
 use Rattle.manifest_switch.specs.declared.slot.OpenFault.{OpenFault}
 use Rattle.manifest_switch.specs.declared.slot.OpenFault.TheVariants as slots
-use Rattle.manifest_switch.specs.Answers.{AnswersCurrent, HasOpenCause}
+use Rattle.manifest_switch.specs.Answers.{AnswersCurrent, why_not_open}
 use Rattle.disk_model.specs.Looks.{Looks}
 use Rattle.manifest_switch.specs.Slots.{IsBlank, current_of, file_of, other}
 use Rattle.manifest_switch.specs.Steps.{Keeps, Stays}
 use Rattle.manifest_switch.proofs.LawLemmas.{blank_iff}
 use Rattle.manifest_switch.proofs.SwitchLemmas.{current_alike}
-use Rattle.open_store.specs.declared.fault.StoreFault.{StoreFault}
-use Rattle.open_store.specs.Answers.{HasDiskCause}
-use Rattle.open_store.specs.Faults.{of_open}
+use Rattle.store_fault.specs.declared.fault.StoreFault.{StoreFault}
+use Rattle.store_fault.specs.Faults.{of_open, why_of}
 use Rattle.open_store.specs.Opened.{IsBadStore}
+use Rattle.faults.proofs.Handed.{on_err}
 
-found_cause : (U : Type 0) (before now : ℕ) (c : Contents) (tells : Bool) (e : OpenFault) → HasOpenCause {T = Found} before now (Err e) → (IsTrue tells → AnswersCurrent (current_of c) (Err e)) → HasDiskCause {T = U} before now (λ f p k. IsTrue tells → IsBadStore c f p k) (Err (of_open e))
+found_cause : (U : Type 0) (before now : ℕ) (c : Contents) (tells : Bool) (e : OpenFault) → HasReason {T = Found} why_not_open (disk_causes (Rose before now) blames_any) (Err e) → (IsTrue tells → AnswersCurrent (current_of c) (Err e)) → HasReason {T = U} why_of (disk_causes (Rose before now) (λ f p k. IsTrue tells → IsBadStore c f p k)) (Err (of_open e))
 found_cause U before now c tells slots.DiskFault rose answers = rose
 found_cause U before now c tells (slots.BadStore f p k) rose answers = λ t. IsBadStore.slots_break (answers t)
 found_cause U before now c tells slots.NoMemory rose answers = record {}
 
-on_err : {U : Type 0} (s : Result U StoreFault) (e : StoreFault) (P : Result U StoreFault → Type 0) → IsErrAnd s (λ x. x ≡ e) → P (Err e) → P s
-on_err (Ok x) e P is p = absurd is
-on_err (Err x) e P is p = subst (λ (y : StoreFault). P (Err y)) (sym is) p
-
 -- what looking at the slots hands on
-pub found_handed : {U : Type 0} (before now : ℕ) (c : Contents) (tells : Bool) (r : Result Found OpenFault) (s : Result U StoreFault) (e : OpenFault) → r ≡ Err e → IsErrAnd s (λ x. x ≡ of_open e) → HasOpenCause before now r → (IsTrue tells → AnswersCurrent (current_of c) r) → HasDiskCause before now (λ f p k. IsTrue tells → IsBadStore c f p k) s
+pub found_handed : {U : Type 0} (before now : ℕ) (c : Contents) (tells : Bool) (r : Result Found OpenFault) (s : Result U StoreFault) (e : OpenFault) → r ≡ Err e → IsErrAnd s (λ x. x ≡ of_open e) → HasReason why_not_open (disk_causes (Rose before now) blames_any) r → (IsTrue tells → AnswersCurrent (current_of c) r) → HasReason why_of (disk_causes (Rose before now) (λ f p k. IsTrue tells → IsBadStore c f p k)) s
 found_handed {U} before now c tells r s e was is cause answers =
-    on_err s (of_open e) (HasDiskCause before now (λ f p k. IsTrue tells → IsBadStore c f p k)) is
-    (found_cause U before now c tells e (subst (HasOpenCause before now) was cause) (λ t. subst (AnswersCurrent (current_of c)) was (answers t)))
+    on_err s (of_open e) (HasReason why_of (disk_causes (Rose before now) (λ f p k. IsTrue tells → IsBadStore c f p k))) is
+    (found_cause U before now c tells e (subst (HasReason why_not_open (disk_causes (Rose before now) blames_any)) was cause) (λ t. subst (AnswersCurrent (current_of c)) was (answers t)))
 
 -- contents that are as those of a blank store
 pub blank_alike : (d c : Contents) → ((f : ℕ) → c f ≡ d f) → current_of d ≡ Ok Blank → IsBlank c

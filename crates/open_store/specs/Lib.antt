@@ -4,5 +4,4 @@ pub mod Stream
 pub mod Opened
 pub mod Answers
 pub mod Free
-pub mod Faults
 pub mod Copy

@@ -1,17 +1,18 @@
 //! Another manifest takes the place of the current one.
 ghost use Rattle.std.specs.Prelude.{◌≡◌, ◌≤◌, ℕ, IsTrue, length, take, IfOk, IsErrOf};
+ghost use Rattle.faults.specs.Reasons.{HasReason, blames_none};
+ghost use Rattle.store_fault.specs.Faults.{why_of};
 ghost use Rattle.disk_model.specs.Disk.{Contents};
 ghost use Rattle.disk_model.specs.Crash.{LeavesOnly};
-ghost use Rattle.disk_model.specs.View.{IsDurable};
+ghost use Rattle.disk_model.specs.View.{IsDurable, on_disk};
 ghost use Rattle.manifest_codec.specs.Spelling.{Fits};
 ghost use Rattle.manifest_switch.specs.Slots.{next_generation, other};
 ghost use Rattle.manifest_switch.specs.Steps.{IsAmid, IsSwitched};
 ghost use Rattle.store_law.specs.Listed.{ends_of};
-ghost use Rattle.open_store.specs.declared.fault.StoreFault.TheVariants.{NoMemory};
-ghost use Rattle.open_store.specs.Answers.{HasDiskCause, blames_none};
+ghost use Rattle.store_fault.specs.declared.fault.StoreFault.TheVariants.{NoMemory};
 ghost use Rattle.open_store.specs.Store.{IsHeldAlone};
 
-use crate::fault::StoreFault;
+use store_fault::StoreFault;
 use crate::store::Store;
 use disk_model::Disk;
 use intervals::Intervals;
@@ -61,7 +62,7 @@ impl Store {
         ensures synced { IfOk result (λ _. IsDurable D.Disk disk.new) }
         ensures memory { IsErrOf result NoMemory → disk.new ≡ disk.old }
         ensures later { D.faults disk.old ≤ D.faults disk.new }
-        ensures cause { HasDiskCause (D.faults disk.old) (D.faults disk.new) blames_none result }
+        ensures cause { HasReason why_of (on_disk D.Disk disk.old disk.new blames_none) result }
     {
         let intervals = intervals_of(alloc, &next)?;
         let slot = switch(alloc, disk, Some(self.slot), &next)?;

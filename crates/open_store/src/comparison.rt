@@ -2,14 +2,16 @@
 ghost use Rattle.std.specs.Prelude.{◌≡◌, ◌≢◌, ◌<◌, ◌≤◌, ◌+◌, ◌^◌, ℕ, List, IsTrue, true, false, Some, None, Ok};
 ghost use Rattle.std.specs.Prelude.{length, take, drop, slice_index_or, OnOk, IfOk, IfErr};
 ghost use Rattle.faults.specs.Counts.{HasCause, Rose};
-ghost use Rattle.disk_model.specs.View.{OnlyLooks};
+ghost use Rattle.disk_model.specs.View.{DiskRose, OnlyLooks};
 ghost use Rattle.io_edge.specs.Devices.{Gives};
-ghost use Rattle.open_store.specs.declared.fault.StoreFault.TheVariants.{ReadFault};
+ghost use Rattle.store_fault.specs.declared.fault.StoreFault.TheVariants.{ReadFault};
 ghost use Rattle.faults.specs.declared.kinds.InputFile.TheVariants.{Source};
-ghost use Rattle.io_edge.specs.View.{NoCountFalls};
-ghost use Rattle.open_store.specs.Answers.{DiffersFirst, HasCompareCause, HasCompareFault, copy_file, copy_len, copy_of};
+ghost use Rattle.io_edge.specs.View.{NoCountFalls, ReadRose};
+ghost use Rattle.faults.specs.Reasons.{HasReason};
+ghost use Rattle.store_fault.specs.Faults.{why_of};
+ghost use Rattle.open_store.specs.Answers.{DiffersFirst, compare_causes, copy_file, copy_len, copy_of};
 
-use crate::fault::StoreFault;
+use store_fault::StoreFault;
 use crate::store::Store;
 use crate::stream::{PIECE_LEN, read_front};
 use disk_model::{Disk, Failed};
@@ -122,8 +124,8 @@ fn compare<I: Inputs, D: Disk>(
     ensures differ { (place : ℕ) → result ≡ Ok (Some place) → (text : List ℕ)
         → I.told inputs.old name.now ≡ Some text → IsTrue D.tells
         → DiffersFirst text (take len (D.seen disk.old file)) place }
-    ensures cause { IfErr result (HasCompareCause (I.faults inputs.old name.now) (I.faults inputs.new name.now)
-        (D.faults disk.old) (D.faults disk.new)) }
+    ensures cause { HasReason why_of (compare_causes (ReadRose I.Inputs inputs.old inputs.new name.now)
+        (DiskRose D.Disk disk.old disk.new) (λ file place. ⊥)) result }
     ensures looks { OnlyLooks D.Disk disk.old disk.new }
     ensures kept { I.told inputs.new ≡ I.told inputs.old }
     ensures others { NoCountFalls I.Inputs inputs.old inputs.new }
@@ -166,10 +168,10 @@ pub fn same_input<I: Inputs, D: Disk>(
     requires { file ≢ Source }
     ensures same { OnOk result ((text : List ℕ) → I.told inputs.old name.now ≡ Some text → IsTrue D.tells
         → text ≡ copy_of store.now.manifest file (D.seen disk.old)) }
-    ensures cause { IfErr result (HasCompareFault (I.faults inputs.old name.now) (I.faults inputs.new name.now)
-        (D.faults disk.old) (D.faults disk.new)
+    ensures cause { HasReason why_of (compare_causes (ReadRose I.Inputs inputs.old inputs.new name.now)
+        (DiskRose D.Disk disk.old disk.new)
         (λ f place. (f ≡ file) × ((text : List ℕ) → I.told inputs.old name.now ≡ Some text → IsTrue D.tells
-        → DiffersFirst text (copy_of store.now.manifest file (D.seen disk.old)) place))) }
+        → DiffersFirst text (copy_of store.now.manifest file (D.seen disk.old)) place))) result }
     ensures looks { OnlyLooks D.Disk disk.old disk.new }
     ensures kept { I.told inputs.new ≡ I.told inputs.old }
     ensures others { NoCountFalls I.Inputs inputs.old inputs.new }

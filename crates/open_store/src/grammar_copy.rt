@@ -1,16 +1,17 @@
 //! The copy of the grammar's text.
 ghost use Rattle.std.specs.Prelude.{◌≡◌, ◌≢◌, ◌↔◌, [], ◌<◌, ◌≤◌, ℕ, List, IsTrue, true, false, length, take, slice_index_or, IfOk};
+ghost use Rattle.faults.specs.Reasons.{HasReason};
+ghost use Rattle.store_fault.specs.Faults.{why_of};
 ghost use Rattle.graph_words.specs.declared.types.Rule.{Rule as ARule};
 ghost use Rattle.grammar_norm.specs.GrammarText.{ReadsGrammar};
 ghost use Rattle.manifest_codec.specs.Spelling.{Fits};
 ghost use Rattle.manifest_switch.specs.Slots.{file_of};
-ghost use Rattle.open_store.specs.Answers.{HasDiskCause};
 ghost use Rattle.faults.specs.declared.form_kind.FormKind.TheVariants.{Short};
-ghost use Rattle.disk_model.specs.View.{OnlyLooks};
-ghost use Rattle.open_store.specs.declared.fault.StoreFault.TheVariants.{BadStore};
+ghost use Rattle.disk_model.specs.View.{OnlyLooks, on_disk};
+ghost use Rattle.store_fault.specs.declared.fault.StoreFault.TheVariants.{BadStore};
 ghost use Rattle.open_store.specs.Copy.{IsBadCopy, IsCopyRead};
 
-use crate::fault::StoreFault;
+use store_fault::StoreFault;
 use disk_model::{Disk, FormKind};
 use grammar_norm::{Grammar, GrammarFault, LabelTable, read_grammar};
 use label_table::Name;
@@ -38,9 +39,8 @@ fn copy_bytes<D: Disk>(alloc: Global, disk: &mut D, size: u64) -> Result<Vec<u8>
     ensures bytes { IsTrue D.tells → IfOk result (λ v. (v.items ≡ take size (D.seen disk.old 2)) × (size ≤ length (D.seen disk.old 2))) }
     ensures looks { OnlyLooks D.Disk disk.old disk.new }
     ensures later { D.faults disk.old ≤ D.faults disk.new }
-    ensures cause { HasDiskCause (D.faults disk.old) (D.faults disk.new)
-        (λ file place kind. (file ≡ 2) × (kind ≡ Short)
-        × (IsTrue D.tells → (place ≡ length (D.seen disk.old 2)) × (length (D.seen disk.old 2) < size))) result }
+    ensures cause { HasReason why_of (on_disk D.Disk disk.old disk.new (λ file place kind. (file ≡ 2) × (kind ≡ Short)
+        × (IsTrue D.tells → (place ≡ length (D.seen disk.old 2)) × (length (D.seen disk.old 2) < size)))) result }
 {
     let len = disk.len(GRAMMAR_FILE)?;
     if len < size {
@@ -93,8 +93,7 @@ pub(crate) fn grammar_of<D: Disk>(
     ensures read { IsTrue D.tells → IfOk result (λ rules. IsCopyRead manifest.now (D.seen disk.old 2) rules) }
     ensures looks { OnlyLooks D.Disk disk.old disk.new }
     ensures later { D.faults disk.old ≤ D.faults disk.new }
-    ensures cause { HasDiskCause (D.faults disk.old) (D.faults disk.new)
-        (λ file place kind. IsTrue D.tells → IsBadCopy slot manifest.now (D.seen disk.old 2) file place kind) result }
+    ensures cause { HasReason why_of (on_disk D.Disk disk.old disk.new (λ file place kind. IsTrue D.tells → IsBadCopy slot manifest.now (D.seen disk.old 2) file place kind)) result }
 {
     let bytes = copy_bytes(alloc, disk, manifest.grammar_len)?;
     match read_grammar(alloc, &bytes) {

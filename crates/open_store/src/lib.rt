@@ -4,7 +4,6 @@
 mod commit;
 mod comparison;
 mod store_tally;
-mod fault;
 mod grammar_copy;
 mod load;
 mod opened;
@@ -14,7 +13,7 @@ mod stream;
 mod tally;
 
 pub use comparison::same_input;
-pub use fault::StoreFault;
+pub use store_fault::StoreFault;
 pub use opened::{OpenMode, Opened, open};
 pub use store::Store;
 pub use tally::Tally;

@@ -1,18 +1,19 @@
 //! Partitions are loaded, or only counted.
 ghost use Rattle.std.specs.Prelude.{◌≡◌, ◌↔◌, ◌<◌, ◌≤◌, ◌+◌, ◌++◌, ◌^◌, [], ℕ, List, IsTrue, true, false, length, slice_index_or, Err, IfOk, OnOk};
+ghost use Rattle.faults.specs.Reasons.{HasReason, blames_none, disk_causes};
+ghost use Rattle.store_fault.specs.Faults.{why_of};
 ghost use Rattle.graph_words.specs.declared.types.Born.{Born as ABorn};
 ghost use Rattle.dest_map.specs.Table.{counts_of};
 ghost use Rattle.faults.specs.declared.form_kind.FormKind.TheVariants.{Counts};
-ghost use Rattle.disk_model.specs.View.{OnlyLooks};
-ghost use Rattle.open_store.specs.declared.fault.StoreFault.TheVariants.{DiskFault};
+ghost use Rattle.disk_model.specs.View.{OnlyLooks, on_disk};
+ghost use Rattle.store_fault.specs.declared.fault.StoreFault.TheVariants.{DiskFault};
 ghost use Rattle.pair_sched.specs.Marks.{newest_of};
 ghost use Rattle.store_law.specs.Listed.{part_file, part_of};
-ghost use Rattle.open_store.specs.Answers.{HasDiskCause, blames_none};
 ghost use Rattle.open_store.specs.PartRead.{IsRead, IsRefused, IsTold, count_below_of};
 ghost use Rattle.open_store.specs.Store.{expect_in};
 ghost use Rattle.open_store.specs.Stream.{IsAt, IsStream, IsTally};
 
-use crate::fault::StoreFault;
+use store_fault::StoreFault;
 use crate::store::Store;
 use crate::stream::PartStream;
 use crate::tally::{Tally, count_below};
@@ -35,7 +36,7 @@ impl Store {
             × IsAt (expect_in self.now i) D.tells (D.seen disk.old (part_file self.now.manifest i)) [] [] s) }
         ensures looks { OnlyLooks D.Disk disk.old disk.new }
         ensures later { D.faults disk.old ≤ D.faults disk.new }
-        ensures cause { HasDiskCause (D.faults disk.old) (D.faults disk.new) blames_none result }
+        ensures cause { HasReason why_of (on_disk D.Disk disk.old disk.new blames_none) result }
     {
         PartStream::begin(alloc, disk, self.file(i), self.expect(i))
     }
@@ -64,11 +65,10 @@ impl Store {
         requires row { length tally.now.row.items ≡ length self.now.manifest.parts }
         ensures told { (edges : List ABorn) → IsTally self.now.ends edges tally.now.row.items tally.now.newest
             → OnOk result (IsTold self.now.manifest i edges) }
-        ensures cause { HasDiskCause 0 0 (λ file place kind. (file ≡ part_file self.now.manifest i) × (place ≡ 0)
+        ensures cause { HasReason why_of (disk_causes ⊥ (λ file place kind. (file ≡ part_file self.now.manifest i) × (place ≡ 0)
             × (kind ≡ Counts) × ((edges : List ABorn)
             → IsTally self.now.ends edges tally.now.row.items tally.now.newest → IsTold self.now.manifest i edges
-            → ⊥)) result }
-        ensures no_disk { result ≡ Err DiskFault → ⊥ }
+            → ⊥))) result }
     {
         if self.tells(i, tally) {
             return Ok(());
@@ -86,9 +86,8 @@ impl Store {
         ensures read { IfOk result (λ v. IsRead self.now i D.tells (D.seen disk.old (part_file self.now.manifest i)) v.items) }
         ensures looks { OnlyLooks D.Disk disk.old disk.new }
         ensures later { D.faults disk.old ≤ D.faults disk.new }
-        ensures cause { HasDiskCause (D.faults disk.old) (D.faults disk.new)
-            (λ file place kind. (file ≡ part_file self.now.manifest i)
-            × (IsTrue D.tells → IsRefused self.now i (D.seen disk.old file) place kind)) result }
+        ensures cause { HasReason why_of (on_disk D.Disk disk.old disk.new (λ file place kind. (file ≡ part_file self.now.manifest i)
+            × (IsTrue D.tells → IsRefused self.now i (D.seen disk.old file) place kind))) result }
     {
         let mut stream = self.stream(alloc, disk, i)?;
         let mut edges = Vec::with_capacity(alloc, stream.most_edges(&self.expect(i)))?;
@@ -116,9 +115,8 @@ impl Store {
         ensures read { IfOk result (λ p. IsRead self.now i D.tells (D.seen disk.old (part_file self.now.manifest i)) p.edges) }
         ensures looks { OnlyLooks D.Disk disk.old disk.new }
         ensures later { D.faults disk.old ≤ D.faults disk.new }
-        ensures cause { HasDiskCause (D.faults disk.old) (D.faults disk.new)
-            (λ file place kind. (file ≡ part_file self.now.manifest i)
-            × (IsTrue D.tells → IsRefused self.now i (D.seen disk.old file) place kind)) result }
+        ensures cause { HasReason why_of (on_disk D.Disk disk.old disk.new (λ file place kind. (file ≡ part_file self.now.manifest i)
+            × (IsTrue D.tells → IsRefused self.now i (D.seen disk.old file) place kind))) result }
     {
         let edges = self.edges(alloc, disk, i)?;
         let (lo, hi) = self.intervals.bounds(i);
@@ -142,9 +140,8 @@ impl Store {
             × (n ≡ count_below_of self.now.ends i at edges)) }
         ensures looks { OnlyLooks D.Disk disk.old disk.new }
         ensures later { D.faults disk.old ≤ D.faults disk.new }
-        ensures cause { HasDiskCause (D.faults disk.old) (D.faults disk.new)
-            (λ file place kind. (file ≡ part_file self.now.manifest j)
-            × (IsTrue D.tells → IsRefused self.now j (D.seen disk.old file) place kind)) result }
+        ensures cause { HasReason why_of (on_disk D.Disk disk.old disk.new (λ file place kind. (file ≡ part_file self.now.manifest j)
+            × (IsTrue D.tells → IsRefused self.now j (D.seen disk.old file) place kind))) result }
     {
         let mut stream = self.stream(alloc, disk, j)?;
         let mut edges = Vec::new(alloc);

@@ -1,17 +1,18 @@
 //! A store is opened: its manifest is found, and its grammar read.
 ghost use Rattle.std.specs.Prelude.{◌≡◌, ◌≤◌, ℕ, IsTrue, Ok, IfOk};
+ghost use Rattle.faults.specs.Reasons.{HasReason};
+ghost use Rattle.store_fault.specs.Faults.{why_of};
 ghost use Rattle.disk_model.specs.Disk.{Contents};
-ghost use Rattle.disk_model.specs.View.{IsDurable, LeavesBy, OnlyLooks};
+ghost use Rattle.disk_model.specs.View.{IsDurable, LeavesBy, OnlyLooks, on_disk};
 ghost use Rattle.manifest_codec.specs.Spelling.{Fits};
 ghost use Rattle.manifest_switch.specs.Steps.{Stays};
 ghost use Rattle.store_law.specs.Listed.{ends_of};
 ghost use Rattle.open_store.specs.declared.opened.OpenMode.TheVariants.{Change, Look};
-ghost use Rattle.open_store.specs.Answers.{HasDiskCause};
 ghost use Rattle.open_store.specs.Copy.{IsBadCopy, IsCopyRead};
 ghost use Rattle.open_store.specs.Opened.{IsBadStore, IsOpened, IsOpenedAlone};
 
 use crate::commit::intervals_of;
-use crate::fault::StoreFault;
+use store_fault::StoreFault;
 use crate::grammar_copy::grammar_of;
 use crate::store::Store;
 use disk_model::Disk;
@@ -50,8 +51,7 @@ fn store_of<D: Disk>(
     ensures copy { IsTrue D.tells → IfOk result (λ s. IsCopyRead manifest (D.seen disk.old 2) s.rules) }
     ensures looks { OnlyLooks D.Disk disk.old disk.new }
     ensures later { D.faults disk.old ≤ D.faults disk.new }
-    ensures cause { HasDiskCause (D.faults disk.old) (D.faults disk.new)
-        (λ file place kind. IsTrue D.tells → IsBadCopy slot manifest (D.seen disk.old 2) file place kind) result }
+    ensures cause { HasReason why_of (on_disk D.Disk disk.old disk.new (λ file place kind. IsTrue D.tells → IsBadCopy slot manifest (D.seen disk.old 2) file place kind)) result }
 {
     let grammar = grammar_of(alloc, disk, slot, &manifest)?;
     let normal = normalise(alloc, &grammar)?;
@@ -69,8 +69,7 @@ fn look<D: Disk>(alloc: Global, disk: &mut D) -> Result<Opened, StoreFault>
     ensures opened { IsTrue D.tells → IfOk result (IsOpened (D.seen disk.old)) }
     ensures looks { OnlyLooks D.Disk disk.old disk.new }
     ensures later { D.faults disk.old ≤ D.faults disk.new }
-    ensures cause { HasDiskCause (D.faults disk.old) (D.faults disk.new)
-        (λ file place kind. IsTrue D.tells → IsBadStore (D.seen disk.old) file place kind) result }
+    ensures cause { HasReason why_of (on_disk D.Disk disk.old disk.new (λ file place kind. IsTrue D.tells → IsBadStore (D.seen disk.old) file place kind)) result }
 {
     match current(alloc, disk)? {
         Found::Blank => Ok(Opened::Blank),
@@ -87,8 +86,7 @@ fn grasp<D: Disk>(alloc: Global, disk: &mut D) -> Result<Opened, StoreFault>
     ensures synced { IfOk result (λ _. IsDurable D.Disk disk.new) }
     ensures any_moment { LeavesBy D.Disk disk.old disk.new Stays }
     ensures later { D.faults disk.old ≤ D.faults disk.new }
-    ensures cause { HasDiskCause (D.faults disk.old) (D.faults disk.new)
-        (λ file place kind. IsTrue D.tells → IsBadStore (D.seen disk.old) file place kind) result }
+    ensures cause { HasReason why_of (on_disk D.Disk disk.old disk.new (λ file place kind. IsTrue D.tells → IsBadStore (D.seen disk.old) file place kind)) result }
 {
     match current(alloc, disk)? {
         Found::Blank => Ok(Opened::Blank),
@@ -118,8 +116,7 @@ pub fn open<D: Disk>(alloc: Global, disk: &mut D, mode: OpenMode) -> Result<Open
     ensures any_moment { LeavesBy D.Disk disk.old disk.new Stays }
     ensures looks { mode ≡ Look → OnlyLooks D.Disk disk.old disk.new }
     ensures later { D.faults disk.old ≤ D.faults disk.new }
-    ensures cause { HasDiskCause (D.faults disk.old) (D.faults disk.new)
-        (λ file place kind. IsTrue D.tells → IsBadStore (D.seen disk.old) file place kind) result }
+    ensures cause { HasReason why_of (on_disk D.Disk disk.old disk.new (λ file place kind. IsTrue D.tells → IsBadStore (D.seen disk.old) file place kind)) result }
 {
     match mode {
         OpenMode::Look => look(alloc, disk),

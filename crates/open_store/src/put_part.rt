@@ -1,16 +1,17 @@
 //! Partitions are put into files that no manifest names.
 ghost use Rattle.std.specs.Prelude.{◌≡◌, ◌≢◌, ◌<◌, ◌≤◌, ℕ, IsTrue, true, false, Contains, All, length, OnOk, IsErrOf};
+ghost use Rattle.faults.specs.Reasons.{HasReason, blames_none};
+ghost use Rattle.store_fault.specs.Faults.{why_of};
 ghost use Rattle.disk_model.specs.Disk.{Sets};
-ghost use Rattle.disk_model.specs.View.{LeavesBy};
+ghost use Rattle.disk_model.specs.View.{LeavesBy, on_disk};
 ghost use Rattle.disk_model.specs.OneFile.{OnlyFile};
 ghost use Rattle.partition_file.specs.Spelling.{newest_format, spelling};
-ghost use Rattle.open_store.specs.declared.fault.StoreFault.TheVariants.{NoMemory};
-ghost use Rattle.open_store.specs.Answers.{HasDiskCause, blames_none};
+ghost use Rattle.store_fault.specs.declared.fault.StoreFault.TheVariants.{NoMemory};
 ghost use Rattle.manifest_codec.specs.declared.types.PartEntry.{PartEntry as APartEntry};
 ghost use Rattle.store_law.specs.Steps.{IsFree};
 ghost use Rattle.open_store.specs.Free.{IsUsed};
 
-use crate::fault::StoreFault;
+use store_fault::StoreFault;
 use crate::store::Store;
 use disk_model::{Disk, rewrite};
 use manifest_codec::PartEntry;
@@ -77,7 +78,7 @@ impl Store {
         ensures written { IsTrue D.tells → OnOk result (Sets file (spelling newest_format part.now) (D.seen disk.old) (D.seen disk.new)) }
         ensures memory { IsErrOf result NoMemory → disk.new ≡ disk.old }
         ensures later { D.faults disk.old ≤ D.faults disk.new }
-        ensures cause { HasDiskCause (D.faults disk.old) (D.faults disk.new) blames_none result }
+        ensures cause { HasReason why_of (on_disk D.Disk disk.old disk.new blames_none) result }
     {
         let bytes = encode(alloc, part)?;
         rewrite(disk, file, &bytes)?;

@@ -1,17 +1,18 @@
 //! A partition's file, read piece by piece.
 ghost use Rattle.std.specs.Prelude.{◌≡◌, ◌+◌, ◌^◌, ◌<◌, ◌≤◌, ◌++◌, [], ℕ, List, IsTrue, true, false, length, take, drop, Some, Ok, Err, IfOk};
+ghost use Rattle.faults.specs.Reasons.{HasReason, blames_none, disk_causes};
+ghost use Rattle.store_fault.specs.Faults.{why_of};
 ghost use Rattle.graph_words.specs.declared.types.Born.{Born as ABorn};
 ghost use Rattle.faults.specs.Counts.{HasCause};
-ghost use Rattle.disk_model.specs.View.{OnlyLooks};
+ghost use Rattle.disk_model.specs.View.{OnlyLooks, on_disk};
 ghost use Rattle.partition_file.specs.declared.types.Expect.{Expect as AnExpect};
 ghost use Rattle.partition_file.specs.Reader.{rest_of};
 ghost use Rattle.partition_file.specs.FieldsRead.{complete};
 ghost use Rattle.partition_file.specs.Spelling.{IsBytes, first_break};
-ghost use Rattle.open_store.specs.declared.fault.StoreFault.TheVariants.{BadStore, DiskFault};
-ghost use Rattle.open_store.specs.Answers.{HasDiskCause, blames_none};
+ghost use Rattle.store_fault.specs.declared.fault.StoreFault.TheVariants.{BadStore, DiskFault};
 ghost use Rattle.open_store.specs.Stream.{HasEnded, IsAt, IsStream};
 
-use crate::fault::StoreFault;
+use store_fault::StoreFault;
 use disk_model::{Disk, Failed};
 use graph_words::Born;
 use partition_file::{Expect, PartFault, RowReader, RowStep, most_edges, read_piece};
@@ -43,7 +44,7 @@ impl PartStream {
         ensures begun { IfOk result (λ s. (s.file ≡ file) × IsStream s × IsAt expect D.tells (D.seen disk.old file) [] [] s) }
         ensures looks { OnlyLooks D.Disk disk.old disk.new }
         ensures later { D.faults disk.old ≤ D.faults disk.new }
-        ensures cause { HasDiskCause (D.faults disk.old) (D.faults disk.new) blames_none result }
+        ensures cause { HasReason why_of (on_disk D.Disk disk.old disk.new blames_none) result }
     {
         let len = disk.len(file)?;
         let piece = vec![in alloc; 0; PIECE_LEN]?;
@@ -81,11 +82,11 @@ impl PartStream {
         ensures further { result ≡ Ok true → (self.old.place < self.new.place) × (self.new.len ≡ self.old.len) }
         ensures looks { OnlyLooks D.Disk disk.old disk.new }
         ensures later { D.faults disk.old ≤ D.faults disk.new }
-        ensures cause { HasDiskCause (D.faults disk.old) (D.faults disk.new) (λ file place kind. (file ≡ self.old.file)
+        ensures cause { HasReason why_of (on_disk D.Disk disk.old disk.new (λ file place kind. (file ≡ self.old.file)
             × (IsTrue D.tells → (e : AnExpect) (file bytes : List ℕ) (front : List ABorn)
             → D.seen disk.old self.old.file ≡ file → IsAt e D.tells file bytes
             (front ++ edges.old.items) self.old → first_break e file
-            ≡ Some (record { place = place; kind = kind }))) result }
+            ≡ Some (record { place = place; kind = kind })))) result }
     {
         if self.place == self.len {
             return self.end();
@@ -106,9 +107,8 @@ impl PartStream {
     fn end(&mut self) -> Result<bool, StoreFault>
         ensures end { result ≡ Ok false → rest_of self.old.reader [] ≡ complete }
         ensures no_more { result ≡ Ok true → ⊥ }
-        ensures bad { HasDiskCause 0 0 (λ file place kind. (file ≡ self.old.file)
-            × ((rest_of self.old.reader []).fault ≡ Some (record { place = place; kind = kind }))) result }
-        ensures no_disk { result ≡ Err DiskFault → ⊥ }
+        ensures bad { HasReason why_of (disk_causes ⊥ (λ file place kind. (file ≡ self.old.file)
+            × ((rest_of self.old.reader []).fault ≡ Some (record { place = place; kind = kind })))) result }
         ensures same { (self.new.file ≡ self.old.file) × (self.new.place ≡ self.old.place) }
     {
         match self.reader.finish() {

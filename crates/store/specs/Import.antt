@@ -2,11 +2,10 @@
 use Rattle.std.specs.Prelude.{◌≡◌, ◌⊎◌, ℕ, List, [], ◌∷◌, length, Option, Some, Ok}
 use Rattle.graph_words.specs.declared.types.Born.{Born}
 use Rattle.faults.specs.declared.kinds.InputFile.TheVariants.{Edges}
-use Rattle.faults.specs.Counts.{Rose}
+use Rattle.faults.specs.Reasons.{BlamesText, Causes, no_cause}
 use Rattle.edge_text.specs.EdgesText.{edges_fault}
 use Rattle.grammar_norm.specs.GrammarText.{ReadsGrammar, grammar_names}
 use Rattle.disk_model.specs.Disk.{Contents}
-use Rattle.faults.specs.declared.form_kind.FormKind.TheVariants.{BadText}
 use Rattle.manifest_codec.specs.declared.types.Manifest.{Manifest}
 use Rattle.manifest_switch.specs.declared.slot.Slot.{Slot}
 use Rattle.manifest_switch.specs.declared.slot.Slot.TheVariants.{Zero}
@@ -14,8 +13,6 @@ use Rattle.manifest_switch.specs.declared.slot.Found.TheVariants.{At}
 use Rattle.manifest_switch.specs.Slots.{current_of}
 use Rattle.store_law.specs.Texts.{AreGood, Texts, graph, names_of}
 use Rattle.store_law.specs.Imported.{IsFresh, IsImported}
-use Rattle.open_store.specs.declared.fault.StoreFault.{StoreFault}
-use Rattle.open_store.specs.declared.fault.StoreFault.TheVariants.{BadStore, DiskFault, InputFault, NoMemory, OtherInput, ReadFault}
 use Rattle.open_store.specs.Store.{IsOpenStore, OpenStore}
 
 -- two texts as those of a store
@@ -58,15 +55,15 @@ pub record HasFresh (grammar : List ℕ) (told : Option (List ℕ)) (limit : ℕ
 abbrev pub Imports : List ℕ → Option (List ℕ) → ℕ → Contents → Contents → Type 0
 Imports grammar told limit old new = (current_of new ≡ current_of old) ⊎ HasFresh grammar told limit new
 
--- Why an import has no answer: the input's count of faults rose, or the disk's; or the edge file, where it is told,
+-- why an import has no answer: the input's count of faults rose, or the disk's; or the edge file, where it is told,
 -- has this first fault behind the grammar's names. The copy of the edges is blamed only where the disk doesn't tell
--- what it holds. Want of memory is free.
-abbrev pub HasImportCause : List ℕ → Option (List ℕ) → Type 0 → ℕ → ℕ → ℕ → ℕ → StoreFault → Type 0
-HasImportCause grammar told tells reads reads' calls calls' ReadFault = Rose reads reads'
-HasImportCause grammar told tells reads reads' calls calls' DiskFault = Rose calls calls'
-HasImportCause grammar told tells reads reads' calls calls' (InputFault Edges line kind) = (text : List ℕ)
-    → told ≡ Some text → edges_fault 0 (grammar_names grammar) text ≡ Some (record { line = line; kind = kind })
-HasImportCause grammar told tells reads reads' calls calls' (InputFault _ line kind) = ⊥
-HasImportCause grammar told tells reads reads' calls calls' (OtherInput file place) = ⊥
-HasImportCause grammar told tells reads reads' calls calls' (BadStore file place kind) = (file ≡ 3) × (place ≡ 0) × (kind ≡ BadText) × (tells → ⊥)
-HasImportCause grammar told tells reads reads' calls calls' NoMemory = Unit {0}
+-- what it holds.
+abbrev pub import_causes : List ℕ → Option (List ℕ) → Type 0 → Type 0 → Type 0 → Causes
+import_causes grammar told tells read_rose disk_rose =
+    record no_cause {
+      reads = read_rose;
+      disk = disk_rose;
+      text = λ file line kind. (file ≡ Edges) × ((text : List ℕ) → told ≡ Some text
+          → edges_fault 0 (grammar_names grammar) text ≡ Some (record { line = line; kind = kind }));
+      bad = BlamesText (tells → ⊥) 3;
+    }

@@ -13,8 +13,6 @@ use Rattle.intervals.specs.Bounds.{IsCut, LiesIn, vertices_of}
 use Rattle.partition_file.specs.Spelling.{newest_format, Fits, Part, spelling}
 use Rattle.dest_map.specs.Counts.{IsCountsOf}
 use Rattle.dest_map.specs.Table.{counts_of}
-use Rattle.import_text.specs.declared.fault.TextFault.{TextFault}
-use Rattle.import_text.specs.declared.fault.TextFault.TheVariants as texts
 use Rattle.import_text.specs.Copy.{AreFew}
 use Rattle.import_text.specs.Degrees.{AreDegrees}
 use Rattle.import_text.specs.Given.{AreGiven}
@@ -27,23 +25,10 @@ use Rattle.manifest_codec.specs.Spelling.{AreMarks, Fits as KeepsRules}
 use Rattle.store_law.specs.Texts.{AreGood, graph, names_of}
 use Rattle.store_law.specs.Imported.{IsFresh}
 use Rattle.store_law.specs.Listed.{ends_of}
-use Rattle.faults.specs.declared.form_kind.FormKind.{FormKind}
 use Rattle.store.specs.Import.{texts_of}
 use Rattle.store.specs.declared.prepared.Prepared.{Prepared}
-use Rattle.faults.specs.declared.kinds.InputFile.TheVariants.{Edges}
-use Rattle.faults.specs.declared.form_kind.FormKind.TheVariants.{BadText}
-use Rattle.open_store.specs.declared.fault.StoreFault.{StoreFault}
-use Rattle.open_store.specs.declared.fault.StoreFault.TheVariants.{BadStore, DiskFault, InputFault, NoMemory, ReadFault}
 use Rattle.store.specs.declared.source.Source.{Source}
 use Rattle.store.specs.declared.tables.Tables.{Tables}
-
--- the fault of a store whose edge file, or its copy, was read with this fault
-abbrev pub of_text : TextFault → StoreFault
-of_text texts.ReadFault = ReadFault
-of_text texts.DiskFault = DiskFault
-of_text (texts.Text line kind) = InputFault Edges line kind
-of_text texts.BadCopy = BadStore 3 0 BadText
-of_text texts.NoMemory = NoMemory
 
 -- a step that leaves both slots as they were
 pub record IsBeside (old new : Contents) : Type 0 where
@@ -60,6 +45,7 @@ pub record IsSource (grammar : List ℕ) (told : Option (List ℕ)) (tells : Typ
   pub reads : ReadsEdges 0 (grammar_names grammar) text edges s.copied.labels
   pub is_file : (file : List ℕ) → told ≡ Some file → text ≡ file
   pub len_is : s.copied.len ≡ length text
+  pub file_is : s.copied.file ≡ 3
   pub degrees_are : AreDegrees edges s.copied.degrees.items
   pub few : AreFew s.copied
   pub grammar_copy : tells → c 2 ≡ grammar
@@ -67,6 +53,7 @@ pub record IsSource (grammar : List ℕ) (told : Option (List ℕ)) (tells : Typ
 
 -- The intervals cut the vertices of the texts, and the copy of the edges is still the one that was made.
 pub record MayPut (s : Source) (ends : List ℕ) (tells : Type 0) (c : Contents) : Type 0 where
+  pub file_is : s.copied.file ≡ 3
   pub vertices : s.copied.vertices ≤ 16777216
   pub rules : All (λ r. r.left.0 < length s.copied.labels) s.normal
   pub good : tells → IsGoodCopy s.copied.labels s.copied.len s.copied.vertices (c 3)
@@ -78,10 +65,6 @@ pub record MayPut (s : Source) (ends : List ℕ) (tells : Type 0) (c : Contents)
 pub record SameTexts (old new : Contents) : Type 0 where
   pub grammar : new 2 ≡ old 2
   pub edges : new 3 ≡ old 3
-
--- the copy of the edges is blamed, which a disk that tells what it holds gives back
-abbrev pub blames_copy : Type 0 → ℕ → ℕ → FormKind → Type 0
-blames_copy tells file place kind = (file ≡ 3) × (place ≡ 0) × (kind ≡ BadText) × (tells → ⊥)
 
 -- partition i with these edges
 abbrev pub part_at : List ℕ → ℕ → List Born → Part

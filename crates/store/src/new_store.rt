@@ -1,12 +1,14 @@
 //! A store is made of two texts.
-ghost use Rattle.std.specs.Prelude.{◌≡◌, ◌≤◌, ℕ, List, None, IsTrue, IfOk, IfErr};
-ghost use Rattle.io_edge.specs.View.{NoCountFalls};
+ghost use Rattle.std.specs.Prelude.{◌≡◌, ◌≤◌, ℕ, List, None, IsTrue, IfOk};
+ghost use Rattle.faults.specs.Reasons.{HasReason};
+ghost use Rattle.io_edge.specs.View.{NoCountFalls, ReadRose};
+ghost use Rattle.store_fault.specs.Faults.{why_of};
 ghost use Rattle.disk_model.specs.Disk.{Contents};
-ghost use Rattle.disk_model.specs.View.{IsDurable, LeavesBy};
+ghost use Rattle.disk_model.specs.View.{DiskRose, IsDurable, LeavesBy};
 ghost use Rattle.grammar_norm.specs.GrammarText.{grammar_fault};
 ghost use Rattle.manifest_switch.specs.Slots.{IsBlank};
 ghost use Rattle.open_store.specs.Store.{IsHeldAlone};
-ghost use Rattle.store.specs.Import.{HasImportCause, Imports, IsImportOf, IsNewStore};
+ghost use Rattle.store.specs.Import.{import_causes, Imports, IsImportOf, IsNewStore};
 
 use crate::prepared::prepare;
 use disk_model::Disk;
@@ -55,8 +57,8 @@ pub fn import<I: Inputs, D: Disk>(
     ensures any_moment { LeavesBy D.Disk disk.old disk.new (Imports grammar.now (I.told inputs.old edges.now) limit) }
 
     // Each fault has its cause.
-    ensures cause { IfErr result (HasImportCause grammar.now (I.told inputs.old edges.now) (IsTrue D.tells)
-        (I.faults inputs.old edges.now) (I.faults inputs.new edges.now) (D.faults disk.old) (D.faults disk.new)) }
+    ensures cause { HasReason why_of (import_causes grammar.now (I.told inputs.old edges.now) (IsTrue D.tells)
+        (ReadRose I.Inputs inputs.old inputs.new edges.now) (DiskRose D.Disk disk.old disk.new)) result }
     ensures kept { I.told inputs.new ≡ I.told inputs.old }
     ensures others { NoCountFalls I.Inputs inputs.old inputs.new }
     ensures later { D.faults disk.old ≤ D.faults disk.new }

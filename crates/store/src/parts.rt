@@ -1,15 +1,16 @@
 //! The partitions of a new store are made and put, one after the other.
 ghost use Rattle.std.specs.Prelude.{◌≡◌, ◌+◌, ◌<◌, ◌≤◌, ℕ, IsTrue, IfOk, OnOk, All, length};
+ghost use Rattle.faults.specs.Reasons.{BlamesText, HasReason};
+ghost use Rattle.store_fault.specs.Faults.{why_of};
 ghost use Rattle.normal_law.specs.NormalForm.{normal_form};
-ghost use Rattle.disk_model.specs.View.{LeavesBy, OnlyLooks};
+ghost use Rattle.disk_model.specs.View.{LeavesBy, OnlyLooks, on_disk};
 ghost use Rattle.partition_file.specs.Spelling.{Fits};
 ghost use Rattle.import_text.specs.Given.{AreGiven};
 ghost use Rattle.import_text.specs.GivenPart.{IsGoodCopy, expect_given};
-ghost use Rattle.open_store.specs.Answers.{HasDiskCause};
-ghost use Rattle.store.specs.NewStore.{IsBeside, IsBuilt, MayPut, SameTexts, blames_copy, graph_in};
+ghost use Rattle.store.specs.NewStore.{IsBeside, IsBuilt, MayPut, SameTexts, graph_in};
 
 use crate::counts::count_edges;
-use crate::source::{EDGES_FILE, Source, of_text};
+use crate::source::Source;
 use crate::tables::Tables;
 use dest_map::DestMap;
 use disk_model::{Disk, rewrite};
@@ -28,37 +29,23 @@ fn given_part<D: Disk>(
     alloc: Global,
     disk: &mut D,
     source: &Source,
-    lo: u32,
-    hi: u32,
+    span: (u32, u32),
 ) -> Result<Partition, StoreFault>
-    requires bounds { lo < hi }
-    requires below { hi ≤ source.now.copied.vertices }
+    requires file { source.now.copied.file ≡ 3 }
+    requires bounds { span.0 < span.1 }
+    requires below { span.1 ≤ source.now.copied.vertices }
     requires vertices { source.now.copied.vertices ≤ 16777216 }
     requires rules { All (λ r. r.left.0 < length source.now.copied.labels) source.now.normal }
     requires good { IsTrue D.tells → IsGoodCopy source.now.copied.labels source.now.copied.len source.now.copied.vertices (D.seen disk.old 3) }
-    ensures fits { IfOk result (Fits (expect_given lo hi source.now.copied.vertices
+    ensures fits { IfOk result (Fits (expect_given span.0 span.1 source.now.copied.vertices
         (length source.now.copied.labels) (normal_form source.now.normal).fresh)) }
     ensures given { IsTrue D.tells → IfOk result
-        (λ p. AreGiven (normal_form source.now.normal) (graph_in source.now (D.seen disk.old)) lo hi p.edges) }
+        (λ p. AreGiven (normal_form source.now.normal) (graph_in source.now (D.seen disk.old)) span.0 span.1 p.edges) }
     ensures looks { OnlyLooks D.Disk disk.old disk.new }
     ensures later { D.faults disk.old ≤ D.faults disk.new }
-    ensures cause { HasDiskCause (D.faults disk.old) (D.faults disk.new) (blames_copy (IsTrue D.tells)) result }
+    ensures cause { HasReason why_of (on_disk D.Disk disk.old disk.new (BlamesText (IsTrue D.tells → ⊥) 3)) result }
 {
-    let copied = &source.copied;
-    match given_edges(
-        alloc,
-        disk,
-        EDGES_FILE,
-        copied.len,
-        &copied.labels,
-        &source.normal,
-        copied.vertices,
-        lo,
-        hi,
-    ) {
-        Ok(part) => Ok(part),
-        Err(fault) => Err(of_text(fault)),
-    }
+    given_edges(alloc, disk, &source.copied, &source.normal, span)
 }
 
 // Makes and puts the next partition.
@@ -77,15 +64,15 @@ fn put_next<D: Disk>(
     ensures texts { IsTrue D.tells → OnOk result (SameTexts (D.seen disk.old) (D.seen disk.new)) }
     ensures any_moment { LeavesBy D.Disk disk.old disk.new IsBeside }
     ensures later { D.faults disk.old ≤ D.faults disk.new }
-    ensures cause { HasDiskCause (D.faults disk.old) (D.faults disk.new) (blames_copy (IsTrue D.tells)) result }
+    ensures cause { HasReason why_of (on_disk D.Disk disk.old disk.new (BlamesText (IsTrue D.tells → ⊥) 3)) result }
 {
-    let (lo, hi) = intervals.bounds(i);
-    let part = given_part(alloc, disk, source, lo, hi)?;
+    let span = intervals.bounds(i);
+    let part = given_part(alloc, disk, source, span)?;
     count_edges(&mut tables.map, intervals, i, part.edges());
     let file = FIRST_FILE + i as u32;
     let bytes = encode(alloc, &part)?;
     rewrite(disk, file, &bytes)?;
-    tables.parts.push(PartEntry { hi, file })?;
+    tables.parts.push(PartEntry { hi: span.1, file })?;
     Ok(())
 }
 
@@ -101,7 +88,7 @@ pub(crate) fn put_parts<D: Disk>(
     ensures texts { IsTrue D.tells → IfOk result (λ _. SameTexts (D.seen disk.old) (D.seen disk.new)) }
     ensures any_moment { LeavesBy D.Disk disk.old disk.new IsBeside }
     ensures later { D.faults disk.old ≤ D.faults disk.new }
-    ensures cause { HasDiskCause (D.faults disk.old) (D.faults disk.new) (blames_copy (IsTrue D.tells)) result }
+    ensures cause { HasReason why_of (on_disk D.Disk disk.old disk.new (BlamesText (IsTrue D.tells → ⊥) 3)) result }
 {
     let mut tables = Tables {
         parts: PartList::new(alloc),

@@ -1,9 +1,11 @@
 //! All that a new store has but the slot of its manifest.
-ghost use Rattle.std.specs.Prelude.{◌≡◌, ◌≤◌, ℕ, List, None, IsTrue, IfOk, IfErr};
-ghost use Rattle.io_edge.specs.View.{NoCountFalls};
-ghost use Rattle.disk_model.specs.View.{LeavesBy};
+ghost use Rattle.std.specs.Prelude.{◌≡◌, ◌≤◌, ℕ, List, None, IsTrue, IfOk};
+ghost use Rattle.faults.specs.Reasons.{HasReason};
+ghost use Rattle.io_edge.specs.View.{NoCountFalls, ReadRose};
+ghost use Rattle.store_fault.specs.Faults.{why_of};
+ghost use Rattle.disk_model.specs.View.{DiskRose, LeavesBy};
 ghost use Rattle.grammar_norm.specs.GrammarText.{grammar_fault};
-ghost use Rattle.store.specs.Import.{HasImportCause};
+ghost use Rattle.store.specs.Import.{import_causes};
 ghost use Rattle.store.specs.NewStore.{IsBeside, IsFirst, IsPrepared};
 
 use crate::parts::put_parts;
@@ -58,8 +60,8 @@ pub(crate) fn prepare<I: Inputs, D: Disk>(
     requires { grammar_fault grammar.now ≡ None }
     ensures prepared { IfOk result (IsPrepared grammar.now (I.told inputs.old edges.now) limit (IsTrue D.tells) (D.seen disk.new)) }
     ensures any_moment { LeavesBy D.Disk disk.old disk.new IsBeside }
-    ensures cause { IfErr result (HasImportCause grammar.now (I.told inputs.old edges.now) (IsTrue D.tells)
-        (I.faults inputs.old edges.now) (I.faults inputs.new edges.now) (D.faults disk.old) (D.faults disk.new)) }
+    ensures cause { HasReason why_of (import_causes grammar.now (I.told inputs.old edges.now) (IsTrue D.tells)
+        (ReadRose I.Inputs inputs.old inputs.new edges.now) (DiskRose D.Disk disk.old disk.new)) result }
     ensures kept { I.told inputs.new ≡ I.told inputs.old }
     ensures others { NoCountFalls I.Inputs inputs.old inputs.new }
     ensures later { D.faults disk.old ≤ D.faults disk.new }

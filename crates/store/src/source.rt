@@ -1,16 +1,18 @@
 //! The two texts of a store are read, checked and copied to the disk.
 ghost use Rattle.std.specs.Prelude.{◌≡◌, ◌≤◌, ℕ, List, None, IsTrue, IfOk, IfErr};
-ghost use Rattle.io_edge.specs.View.{NoCountFalls};
-ghost use Rattle.disk_model.specs.View.{LeavesBy};
+ghost use Rattle.faults.specs.Reasons.{HasReason};
+ghost use Rattle.io_edge.specs.View.{NoCountFalls, ReadRose};
+ghost use Rattle.store_fault.specs.Faults.{why_of};
+ghost use Rattle.disk_model.specs.View.{DiskRose, LeavesBy};
 ghost use Rattle.grammar_norm.specs.GrammarText.{ReadsGrammar, grammar_fault};
-ghost use Rattle.open_store.specs.declared.fault.StoreFault.TheVariants.{NoMemory};
-ghost use Rattle.store.specs.Import.{HasImportCause};
-ghost use Rattle.store.specs.NewStore.{IsBeside, IsSource, of_text as fault_of_text};
+ghost use Rattle.store_fault.specs.declared.fault.StoreFault.TheVariants.{NoMemory};
+ghost use Rattle.store.specs.Import.{import_causes};
+ghost use Rattle.store.specs.NewStore.{IsBeside, IsSource};
 
-use disk_model::{Disk, FormKind, rewrite};
+use disk_model::{Disk, rewrite};
 use grammar_norm::{Grammar, LabelTable, Normal, normalise, read_grammar};
-use import_text::{Copied, TextFault, copy_edges};
-use io_edge::{InputFile, Inputs};
+use import_text::{Copied, copy_edges};
+use io_edge::Inputs;
 use open_store::StoreFault;
 use std::alloc::Global;
 
@@ -26,27 +28,6 @@ pub(crate) struct Source {
     pub grammar_len: u64,
     pub normal: Normal,
     pub copied: Copied,
-}
-
-// The fault of a store whose edge file, or its copy, was read with this fault.
-pub(crate) fn of_text(fault: TextFault) -> StoreFault
-    ensures { result ≡ fault_of_text fault }
-{
-    match fault {
-        TextFault::ReadFault => StoreFault::ReadFault,
-        TextFault::DiskFault => StoreFault::DiskFault,
-        TextFault::Text { line, kind } => StoreFault::InputFault {
-            file: InputFile::Edges,
-            line,
-            kind,
-        },
-        TextFault::BadCopy => StoreFault::BadStore {
-            file: EDGES_FILE,
-            place: 0,
-            kind: FormKind::BadText,
-        },
-        TextFault::NoMemory => StoreFault::NoMemory,
-    }
 }
 
 // The rules of a grammar's text without a fault, and its names.
@@ -73,8 +54,8 @@ pub(crate) fn copy_texts<I: Inputs, D: Disk>(
     requires { grammar_fault grammar.now ≡ None }
     ensures source { IfOk result (IsSource grammar.now (I.told inputs.old edges.now) (IsTrue D.tells) (D.seen disk.new)) }
     ensures any_moment { LeavesBy D.Disk disk.old disk.new IsBeside }
-    ensures cause { IfErr result (HasImportCause grammar.now (I.told inputs.old edges.now) (IsTrue D.tells)
-        (I.faults inputs.old edges.now) (I.faults inputs.new edges.now) (D.faults disk.old) (D.faults disk.new)) }
+    ensures cause { HasReason why_of (import_causes grammar.now (I.told inputs.old edges.now) (IsTrue D.tells)
+        (ReadRose I.Inputs inputs.old inputs.new edges.now) (DiskRose D.Disk disk.old disk.new)) result }
     ensures kept { I.told inputs.new ≡ I.told inputs.old }
     ensures others { NoCountFalls I.Inputs inputs.old inputs.new }
     ensures later { D.faults disk.old ≤ D.faults disk.new }
@@ -82,12 +63,10 @@ pub(crate) fn copy_texts<I: Inputs, D: Disk>(
     let (rules, names) = read_good(alloc, grammar)?;
     let normal = normalise(alloc, &rules)?;
     rewrite(disk, GRAMMAR_FILE, grammar)?;
-    match copy_edges(alloc, inputs, edges, names, disk, EDGES_FILE) {
-        Ok(copied) => Ok(Source {
-            grammar_len: grammar.len() as u64,
-            normal,
-            copied,
-        }),
-        Err(fault) => Err(of_text(fault)),
-    }
+    let copied = copy_edges(alloc, inputs, edges, names, disk, EDGES_FILE)?;
+    Ok(Source {
+        grammar_len: grammar.len() as u64,
+        normal,
+        copied,
+    })
 }

@@ -2,7 +2,9 @@ use Rattle.std.proofs.lemmas.Result.{err_from_is_err_and}
 use Rattle.disk_model.specs.Disk.{ShortenedIn}
 use Rattle.disk_model.specs.Run.{one_step, then_run}
 use Rattle.disk_model.specs.OneFile.{OnlyFile, only_refl, only_shortened, only_trans}
-use Rattle.import_text.proofs.CopyLemmas.{disk_no_text}
+use Rattle.std.proofs.Common.{arith}
+use Rattle.faults.proofs.Handed.{holds_more}
+use Rattle.import_text.proofs.CopyLemmas.{copy_more}
 use Rattle.import_text.proofs.copy.copy_edges.Goals as goal
 
 pub returns-in_err-cut-clause-any_moment : goal.returns-in_err-cut-clause-any_moment
@@ -14,15 +16,12 @@ returns-in_err-cut-clause-any_moment g c =
 pub copy_pieces-requires-clause-empty : goal.copy_pieces-requires-clause-empty
 copy_pieces-requires-clause-empty g c = λ tells. (c.in_ok-cut.ensures.cut tells).here
 
-pub returns-in_err-cut-clause-fault : goal.returns-in_err-cut-clause-fault
-returns-in_err-cut-clause-fault g c =
-    let p = err_from_is_err_and c.from_residual-in_err-cut.result c.from_residual-in_err-cut.ensures.1 in
-    rw p.1 (λ line kind text names e. absurd (disk_no_text p.0 line kind p.2 e))
-
-pub returns-in_err-len-clause-fault : goal.returns-in_err-len-clause-fault
-returns-in_err-len-clause-fault g c =
+pub returns-in_err-len-clause-cause : goal.returns-in_err-len-clause-cause
+returns-in_err-len-clause-cause g c =
     let p = err_from_is_err_and c.from_residual-in_err-len.result c.from_residual-in_err-len.ensures.1 in
-    rw (p.1, p.2) (λ line kind file names e t s. c.in_err-len.ensures.fault line kind file names e t (c.in_ok-tally.ensures.names names s))
+    rw (p.1, p.2)
+    (holds_more _ _ (copy_more _ _ _ _ _ _ (λ rose. omega (arith, rose, c.cut.ensures.cause.later)) (λ names s. c.in_ok-tally.ensures.names names s)) _
+    c.in_err-len.ensures.cause)
 
 pub returns-in_err-len-clause-any_moment : goal.returns-in_err-len-clause-any_moment
 returns-in_err-len-clause-any_moment g c =

@@ -5,7 +5,7 @@ use Rattle.edge_text.proofs.FeedLemmas.{reads_fault, reads_all}
 use Rattle.disk_model.specs.Disk.{TornIn}
 use Rattle.disk_model.specs.Run.{no_step, then_call}
 use Rattle.disk_model.specs.OneFile.{OnlyFile, only_refl, only_torn, only_trans}
-use Rattle.import_text.proofs.CopyLemmas.{copying_start, copying_on, copying_ends, copying_text, copying_cause}
+use Rattle.import_text.proofs.CopyLemmas.{copying_start, copying_on, copying_ends, reader_cause}
 use Rattle.import_text.proofs.copy.copy_pieces.Goals as goal
 
 pub loop-n-init : goal.loop-n-init
@@ -35,20 +35,16 @@ returns-in_err-take-clause-any_moment g c =
     then_call D.moment D.left_since D.may_leave L.counts_now L.only_now c.args.disk.now c.loop-n.disk c.write_at.new.self (OnlyFile c.args.file) (TornIn c.args.file c.loop-n.place (length (take c.in_ok-n.n c.read.new.buf))) c.loop-n.invariant.run c.write_at.ensures.time c.write_at.ensures.crash
     (λ d m x only torn. only_trans c.args.file d m x only (only_torn c.args.file c.loop-n.place (length (take c.in_ok-n.n c.read.new.buf)) m x torn))
 
-pub returns-in_err-take-clause-fault : goal.returns-in_err-take-clause-fault
-returns-in_err-take-clause-fault g c =
-    let p = err_from_is_err_and c.from_residual-in_err-take.result c.from_residual-in_err-take.ensures.1 in
-    rw (p.1, p.2)
-    (λ line kind file names e t s.
-    let copying = c.loop-n.invariant.copying in
-    reads_fault (λ f. g.I.Inputs.told c.args.inputs.now c.args.name.now ≡ Some f) c.args.tally.now.reader c.loop-n.tally.reader copying.0 c.loop-n.place c.loop-n.invariant.place c.read.new.buf c.in_ok-n.n copying.1
-    (λ f t. c.in_ok-n.ensures.bytes f (ap (λ h. h c.args.name.now) c.loop-n.invariant.kept ∙ t))
-    copying.2.read names _ (c.in_err-take.ensures.fault line kind (copying_text _ line kind e) names copying.0 copying.1 (copying.2.read.feeds names s)) file t)
-
 pub returns-in_err-take-clause-cause : goal.returns-in_err-take-clause-cause
 returns-in_err-take-clause-cause g c =
     let p = err_from_is_err_and c.from_residual-in_err-take.result c.from_residual-in_err-take.ensures.1 in
-    rw (p.1, p.2) (copying_cause _ _ _ _ _ c.in_err-take.ensures.text)
+    rw (p.1, p.2)
+    (reader_cause _ _ _ _ _ c.in_err-take.ensures.text
+    (λ line kind e file names t s.
+    let copying = c.loop-n.invariant.copying in
+    reads_fault (λ f. g.I.Inputs.told c.args.inputs.now c.args.name.now ≡ Some f) c.args.tally.now.reader c.loop-n.tally.reader copying.0 c.loop-n.place c.loop-n.invariant.place c.read.new.buf c.in_ok-n.n copying.1
+    (λ f t. c.in_ok-n.ensures.bytes f (ap (λ h. h c.args.name.now) c.loop-n.invariant.kept ∙ t))
+    copying.2.read names _ (c.in_err-take.ensures.fault line kind e names copying.0 copying.1 (copying.2.read.feeds names s)) file t))
 
 pub loop-n-preserved : goal.loop-n-preserved
 loop-n-preserved g c =
@@ -76,23 +72,19 @@ loop-n-preserved g c =
       );
     }
 
-pub returns-in_err-finish-clause-fault : goal.returns-in_err-finish-clause-fault
-returns-in_err-finish-clause-fault g c =
+pub returns-in_err-finish-clause-cause : goal.returns-in_err-finish-clause-cause
+returns-in_err-finish-clause-cause g c =
     let p = err_from_is_err_and c.from_residual-in_err-finish.result c.from_residual-in_err-finish.ensures.1 in
     rw (p.1, p.2)
-    (λ line kind file names e t s.
+    (reader_cause _ _ _ _ _ c.in_err-finish.ensures.text
+    (λ line kind e file names t s.
     let copying = c.loop-n.invariant.copying in
     let all =
     reads_all (λ f. g.I.Inputs.told c.args.inputs.now c.args.name.now ≡ Some f) c.args.tally.now.reader c.loop-n.tally.reader copying.0 c.loop-n.place c.loop-n.invariant.place c.read.new.buf c.in_ok-n.n copying.1
     (λ f t. c.in_ok-n.ensures.bytes f (ap (λ h. h c.args.name.now) c.loop-n.invariant.kept ∙ t))
     copying.2.read
     (omega (arith, c.read.auto.buf, c.loop-n.auto.piece, c.requires.some)) c.if-n-eq0.true file t in
-    sym (ap (edges_fault 0 names) all) ∙ c.in_err-finish.ensures.fault line kind (copying_text _ line kind e) names copying.0 copying.1 (copying.2.read.feeds names s))
-
-pub returns-in_err-finish-clause-cause : goal.returns-in_err-finish-clause-cause
-returns-in_err-finish-clause-cause g c =
-    let p = err_from_is_err_and c.from_residual-in_err-finish.result c.from_residual-in_err-finish.ensures.1 in
-    rw (p.1, p.2) (copying_cause _ _ _ _ _ c.in_err-finish.ensures.text)
+    sym (ap (edges_fault 0 names) all) ∙ c.in_err-finish.ensures.fault line kind e names copying.0 copying.1 (copying.2.read.feeds names s)))
 
 pub returns-clause-copied : goal.returns-clause-copied
 returns-clause-copied g c =

@@ -4,7 +4,7 @@ use Rattle.edge_text.specs.EdgesText.{edges_fault}
 use Rattle.edge_text.proofs.FeedLemmas.{reads_fault, reads_all}
 use Rattle.disk_model.specs.Disk.{Contents, Reads}
 use Rattle.normal_law.specs.NormalForm.{normal_form}
-use Rattle.import_text.proofs.ReadLemmas.{looks_none, looks_then, gives_from_reads, bad_text, gathering_start, gathering_on, gathering_ends}
+use Rattle.import_text.proofs.ReadLemmas.{copy_cause, looks_none, looks_then, gives_from_reads, gathering_start, gathering_on, gathering_ends}
 use Rattle.import_text.proofs.given_part.gather_pieces.Goals as goal
 
 pub loop-n-init : goal.loop-n-init
@@ -19,17 +19,17 @@ loop-n-init g c =
       gathering = ([], [], gathering_start (normal_form c.args.normal.now) _ c.args.gathering.now c.requires.new.0);
     }
 
-pub returns-in-Err-clause-bad : goal.returns-in-Err-clause-bad
-returns-in-Err-clause-bad g c =
-    λ is tells names fed whole.
+pub returns-in-Err-clause-cause : goal.returns-in-Err-clause-cause
+returns-in-Err-clause-cause g c =
+    rw c.copy_fault.ensures
+    (copy_cause _ _ c.args.file c.in-Err.fault c.in-Err.ensures.text (λ line kind is tells names fed whole.
     let gathering = c.loop-n.invariant.gathering in
-    let what = bad_text c.in-Err.fault (sym c.reading_fault.ensures ∙ is) in
     let found =
     reads_fault (λ f. IsTrue g.D.Disk.tells × (f ≡ g.D.Disk.seen c.args.disk.now c.args.file)) c.args.gathering.now.reader c.loop-n.gathering.reader gathering.0 c.loop-n.place c.loop-n.invariant.place c.read.new.buf c.in_ok-n.n gathering.1
     (λ f t. gives_from_reads f c.loop-n.place c.read.new.buf c.in_ok-n.n (subst (λ (b : List ℕ). Reads b c.loop-n.place c.read.new.buf c.in_ok-n.n) (ap (λ (s : Contents). s c.args.file) c.loop-n.invariant.looks.same_seen ∙ sym t.1) (c.in_ok-n.ensures.bytes t.0)))
-    gathering.2.read names (Some (record { line = what.0; kind = what.1 })) (c.in-Err.ensures.fault what.0 what.1 what.2 names gathering.0 gathering.1 (gathering.2.read.feeds names fed)) (g.D.Disk.seen c.args.disk.now c.args.file) (tells, refl) in
-    let apart : None ≡ Some (record { line = what.0; kind = what.1 }) = sym whole ∙ found in
-    absurd (cc)
+    gathering.2.read names (Some (record { line = line; kind = kind })) (c.in-Err.ensures.fault line kind is names gathering.0 gathering.1 (gathering.2.read.feeds names fed)) (g.D.Disk.seen c.args.disk.now c.args.file) (tells, refl) in
+    let apart : None ≡ Some (record { line = line; kind = kind }) = sym whole ∙ found in
+    absurd (cc)))
 
 pub loop-n-preserved : goal.loop-n-preserved
 loop-n-preserved g c =
@@ -52,19 +52,19 @@ loop-n-preserved g c =
       );
     }
 
-pub returns-in-Err-finish-clause-bad : goal.returns-in-Err-finish-clause-bad
-returns-in-Err-finish-clause-bad g c =
-    λ is tells names fed whole.
+pub returns-in-Err-finish-clause-cause : goal.returns-in-Err-finish-clause-cause
+returns-in-Err-finish-clause-cause g c =
+    rw c.copy_fault-in-Err-finish.ensures
+    (copy_cause _ _ c.args.file c.in-Err-finish.fault c.in-Err-finish.ensures.text (λ line kind is tells names fed whole.
     let gathering = c.loop-n.invariant.gathering in
-    let what = bad_text c.in-Err-finish.fault (sym c.reading_fault-in-Err-finish.ensures ∙ is) in
     let all =
     reads_all (λ f. IsTrue g.D.Disk.tells × (f ≡ g.D.Disk.seen c.args.disk.now c.args.file)) c.args.gathering.now.reader c.loop-n.gathering.reader gathering.0 c.loop-n.place c.loop-n.invariant.place c.read.new.buf c.in_ok-n.n gathering.1
     (λ f t. gives_from_reads f c.loop-n.place c.read.new.buf c.in_ok-n.n (subst (λ (b : List ℕ). Reads b c.loop-n.place c.read.new.buf c.in_ok-n.n) (ap (λ (s : Contents). s c.args.file) c.loop-n.invariant.looks.same_seen ∙ sym t.1) (c.in_ok-n.ensures.bytes t.0)))
     gathering.2.read
     (omega (arith, c.read.auto.buf, c.loop-n.auto.piece, c.requires.some)) c.if-n-eq0.true (g.D.Disk.seen c.args.disk.now c.args.file) (tells, refl) in
-    let found = c.in-Err-finish.ensures.fault what.0 what.1 what.2 names gathering.0 gathering.1 (gathering.2.read.feeds names fed) in
-    let apart : None ≡ Some (record { line = what.0; kind = what.1 }) = sym whole ∙ sym (ap (edges_fault 0 names) all) ∙ found in
-    absurd (cc)
+    let found = c.in-Err-finish.ensures.fault line kind is names gathering.0 gathering.1 (gathering.2.read.feeds names fed) in
+    let apart : None ≡ Some (record { line = line; kind = kind }) = sym whole ∙ sym (ap (edges_fault 0 names) all) ∙ found in
+    absurd (cc)))
 
 pub returns-clause-gathered : goal.returns-clause-gathered
 returns-clause-gathered g c =

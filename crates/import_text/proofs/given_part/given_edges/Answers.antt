@@ -7,24 +7,14 @@ use Rattle.import_text.proofs.FitLemmas.{gives_part, fits_part}
 use Rattle.import_text.proofs.given_part.given_edges.Goals as goal
 
 pub part_of-requires-clause-from : goal.part_of-requires-clause-from
-part_of-requires-clause-from g c = All-from_members (IsFrom c.args.lo c.args.hi) c.in_ok-given.given.items (λ e m. ((c.in_ok-given.ensures.gathered.all e).0 m).0)
-
-pub returns-in_err-given-clause-bad : goal.returns-in_err-given-clause-bad
-returns-in_err-given-clause-bad g c =
-    let p = err_from_is_err_and c.from_residual.result c.from_residual.ensures.1 in
-    rw (p.1, p.2) c.in_err-given.ensures.bad
-
-pub returns-in_err-part-clause-bad : goal.returns-in_err-part-clause-bad
-returns-in_err-part-clause-bad g c =
-    let p = err_from_is_err_and c.from_residual-in_err-part.result c.from_residual-in_err-part.ensures.1 in
-    rw (p.1, p.2) (λ e. absurd (cc))
+part_of-requires-clause-from g c = All-from_members (IsFrom c.args.span.0 c.args.span.1) c.in_ok-given.given.items (λ e m. ((c.in_ok-given.ensures.gathered.all e).0 m).0)
 
 pub returns-clause-given : goal.returns-clause-given
 returns-clause-given g c =
     let e = c.in_ok-part.ensures in
-    gives_part c.args.normal.now c.args.labels.now c.args.len c.args.vertices c.args.lo c.args.hi (IsTrue g.D.Disk.tells) (g.D.Disk.seen c.args.disk.now c.args.file) c.in_ok-given.given.items c.in_ok-part.part c.in_ok-given.ensures.gathered e.bounds e.part e.edges e.few c.requires.below c.requires.rules (omega (arith, c.fresh-fresh.ensures.fresh, c.fresh-fresh.ensures.few))
+    gives_part c.args.normal.now c.args.copied.now.labels c.args.copied.now.len c.args.copied.now.vertices c.args.span.0 c.args.span.1 (IsTrue g.D.Disk.tells) (g.D.Disk.seen c.args.disk.now c.args.copied.now.file) c.in_ok-given.given.items c.in_ok-part.part c.in_ok-given.ensures.gathered e.bounds e.part e.edges e.few c.requires.below c.requires.rules (omega (arith, c.fresh-fresh.ensures.fresh, c.fresh-fresh.ensures.few))
 
 pub returns-clause-fits : goal.returns-clause-fits
 returns-clause-fits g c =
     let e = c.in_ok-part.ensures in
-    fits_part c.args.normal.now c.args.labels.now c.args.len c.args.vertices c.args.lo c.args.hi (IsTrue g.D.Disk.tells) (g.D.Disk.seen c.args.disk.now c.args.file) c.in_ok-given.given.items c.in_ok-part.part c.in_ok-given.ensures.gathered e.bounds e.part e.edges e.few c.requires.below c.requires.rules (omega (arith, c.fresh-fresh.ensures.fresh, c.fresh-fresh.ensures.few))
+    fits_part c.args.normal.now c.args.copied.now.labels c.args.copied.now.len c.args.copied.now.vertices c.args.span.0 c.args.span.1 (IsTrue g.D.Disk.tells) (g.D.Disk.seen c.args.disk.now c.args.copied.now.file) c.in_ok-given.given.items c.in_ok-part.part c.in_ok-given.ensures.gathered e.bounds e.part e.edges e.few c.requires.below c.requires.rules (omega (arith, c.fresh-fresh.ensures.fresh, c.fresh-fresh.ensures.few))

@@ -5,7 +5,9 @@ use Rattle.manifest_switch.specs.declared.slot.Slot.TheVariants.{One}
 use Rattle.manifest_switch.specs.declared.slot.Found.{Found}
 use Rattle.manifest_switch.specs.declared.slot.OpenFault.{OpenFault}
 use Rattle.manifest_switch.specs.Slots.{open_body, current_of}
-use Rattle.manifest_switch.specs.Answers.{AnswersSlot, AnswersCurrent, HasOpenCause}
+use Rattle.faults.specs.Counts.{Rose}
+use Rattle.faults.specs.Reasons.{HasReason, blames_any, disk_causes}
+use Rattle.manifest_switch.specs.Answers.{AnswersSlot, AnswersCurrent, why_not_open}
 use Rattle.manifest_switch.proofs.CurrentLemmas.{first_bad, second_bad, no_disk_fault, handed_on}
 use Rattle.manifest_switch.proofs.current.current.Goals as goal
 
@@ -28,4 +30,4 @@ pub returns-clause-cause : goal.returns-clause-cause
 returns-clause-cause g c =
     let old = g.D.Disk.faults c.args.disk.now in
     let new = g.D.Disk.faults c.slot_of-2.new.disk in
-    subst (λ (r : Result Found OpenFault). HasOpenCause old new r) (sym c.chosen.ensures.chosen) (no_disk_fault old new (option_map Ok c.in_ok-first.first) (option_map Ok c.in_ok-second.second))
+    subst (λ (r : Result Found OpenFault). HasReason why_not_open (disk_causes (Rose old new) blames_any) r) (sym c.chosen.ensures.chosen) (no_disk_fault old new (option_map Ok c.in_ok-first.first) (option_map Ok c.in_ok-second.second))

@@ -131,7 +131,7 @@ returns-in_err-check-clause-cause g c =
     let no = c.in_ok-next.was ∙ ap (λ (b : Bool). Ok b) c.if-branch.false in
     let end = c.next.ensures.end no (expect_in s j) file inv.at.0 given same at in
     let ended = subst (λ (l : List Born). HasEnded (expect_in s j) D.tells file inv.at.0 l) (sym (all_given given c.loop-tally.edges.items inv.none)) end.0 in
-    handed_other (D.faults c.args.disk.now) (D.faults c.next.new.disk) _ _ c.check.result c.from_residual-in_err-check.result c.in_err-check.field-0.0 c.in_err-check.was c.from_residual-in_err-check.ensures.1 c.check.ensures.no_disk
+    handed_other (D.faults c.args.disk.now) (D.faults c.next.new.disk) _ _ c.check.result c.from_residual-in_err-check.result c.in_err-check.field-0.0 c.in_err-check.was c.from_residual-in_err-check.ensures.1
     (λ f p k blamed. (
       blamed.0,
       λ tells. subst (λ (x : ℕ). IsRefused s j (D.seen c.args.disk.now x) p k) (sym blamed.0)

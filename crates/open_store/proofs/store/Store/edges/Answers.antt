@@ -76,7 +76,7 @@ returns-in_err-check-clause-cause g c =
     let tally : IsTally s.ends edges c.add_all.new.self.row.items c.add_all.new.self.newest =
     subst (λ (l : List ℕ). IsTally l edges c.add_all.new.self.row.items c.add_all.new.self.newest) (ap (λ (x : OpenStore). x.ends) c.self.view_is)
     (subst (λ (l : List Born). IsTally c.self.inside.intervals l c.add_all.new.self.row.items c.add_all.new.self.newest) (c.deref.ensures.value ∙ ap (λ (v : Vec Born). v.items) end.1) (c.add_all.ensures.tally [] c.in_ok-tally.ensures)) in
-    handed_other (D.faults c.args.disk.now) (D.faults c.next.new.disk) _ _ c.check.result c.from_residual-in_err-check.result c.in_err-check.field-0.0 c.in_err-check.was c.from_residual-in_err-check.ensures.1 c.check.ensures.no_disk
+    handed_other (D.faults c.args.disk.now) (D.faults c.next.new.disk) _ _ c.check.result c.from_residual-in_err-check.result c.in_err-check.field-0.0 c.in_err-check.was c.from_residual-in_err-check.ensures.1
     (λ f p k blamed. (
       blamed.0,
       λ tells. subst (λ (x : ℕ). IsRefused s i (D.seen c.args.disk.now x) p k) (sym blamed.0)

@@ -1,10 +1,11 @@
 //! Why a call of a store has no answer.
 ghost use Rattle.std.specs.Prelude.{◌≡◌};
-ghost use Rattle.open_store.specs.declared.fault.StoreFault.TheVariants.{DiskFault, NoMemory};
-ghost use Rattle.open_store.specs.Faults.{of_open, of_switch};
+ghost use Rattle.store_fault.specs.declared.fault.StoreFault.TheVariants.{DiskFault, NoMemory, ReadFault};
+ghost use Rattle.store_fault.specs.Faults.{of_edges, of_open, of_switch};
 
-use disk_model::{Failed, FormKind};
-use io_edge::{InputFile, InputKind};
+use disk_model::Failed;
+use edge_text::EdgesFault;
+use faults::{FormKind, InputFile, InputKind};
 use manifest_switch::{OpenFault, SwitchFault};
 use std::alloc::{AllocError, AllocFailed};
 use thiserror::Error;
@@ -69,6 +70,14 @@ impl From<Failed> for StoreFault {
     }
 }
 
+impl From<io_edge::Failed> for StoreFault {
+    ghost from_gives = { λ _ e. e ≡ ReadFault };
+
+    fn from(_e: io_edge::Failed) -> StoreFault {
+        StoreFault::ReadFault
+    }
+}
+
 impl From<SwitchFault> for StoreFault {
     ghost from_gives = { λ f e. e ≡ of_switch f };
 
@@ -88,6 +97,22 @@ impl From<OpenFault> for StoreFault {
             OpenFault::DiskFault => StoreFault::DiskFault,
             OpenFault::BadStore { file, place, kind } => StoreFault::BadStore { file, place, kind },
             OpenFault::NoMemory => StoreFault::NoMemory,
+        }
+    }
+}
+
+impl From<EdgesFault> for StoreFault {
+    ghost from_gives = { λ f e. e ≡ of_edges f };
+
+    fn from(fault: EdgesFault) -> StoreFault {
+        match fault {
+            EdgesFault::ReadFailed => StoreFault::ReadFault,
+            EdgesFault::Text { line, kind } => StoreFault::InputFault {
+                file: InputFile::Edges,
+                line,
+                kind,
+            },
+            EdgesFault::NoMemory => StoreFault::NoMemory,
         }
     }
 }
