@@ -13,8 +13,8 @@ use Rattle.store_law.specs.Listed.{part_file}
 use Rattle.store_law.specs.Left.{IsDone}
 use Rattle.open_store.specs.Store.{IsHeldAlone, OpenStore}
 use Rattle.open_store.specs.PartRead.{IsRefused}
-use Rattle.closer.specs.declared.step.Stepped.{Stepped}
-use Rattle.closer.specs.declared.step.Stepped.TheVariants.{Again, Finished}
+use Rattle.closer.specs.declared.one_step.Stepped.{Stepped}
+use Rattle.closer.specs.declared.one_step.Stepped.TheVariants.{Again, Finished}
 use Rattle.closer.specs.Continuation.{Continues, GoesOn, HasWork, Retains, work_of}
 
 abbrev pub IfFinished : Stepped → (OpenStore → Type 0) → Type 0

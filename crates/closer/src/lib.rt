@@ -5,12 +5,12 @@ mod laws;
 mod next_manifest;
 mod pair;
 mod changed_parts;
-mod step;
+mod one_step;
 mod to_end;
 
 pub use laws::{
     held_stores_have_the_rules_of_their_texts, steps_keep_a_store, stops_leave_a_store,
     stores_are_not_refused,
 };
-pub use step::{Stepped, step};
+pub use one_step::{Stepped, step};
 pub use to_end::run_to_end;

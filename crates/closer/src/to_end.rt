@@ -8,7 +8,7 @@ ghost use Rattle.store_law.specs.Left.{IsDone};
 ghost use Rattle.open_store.specs.Store.{IsHeldAlone};
 ghost use Rattle.closer.specs.Answers.{BlamesOnTheWay, IsClosed, Moves};
 
-use crate::step::{Stepped, step};
+use crate::one_step::{Stepped, step};
 use closing_options::RunOptions;
 use disk_model::Disk;
 use open_store::{Store, StoreFault};

@@ -4,6 +4,7 @@ use Rattle.std.specs.Prelude.{IsTrue, IfErr, IsErrAnd, Result, Contains, slice_g
 use Rattle.std.proofs.lemmas.Bool.{cases_order}
 use Rattle.std.proofs.lemmas.Option.{get_or_from_slice_get, slice_get_within}
 use Rattle.std.proofs.lemmas.List.Elements.{Contains-get_or}
+use Rattle.faults.specs.Reasons.{HasReason}
 use Rattle.label_table.specs.Names.{IsTable}
 use Rattle.graph_words.specs.declared.types.LabelId.{LabelId}
 use Rattle.graph_words.specs.declared.types.Born.{Born}
@@ -16,7 +17,7 @@ use Rattle.store_fault.specs.declared.fault.StoreFault.TheVariants as stores
 use Rattle.open_store.specs.Store.{IsHeld, OpenStore}
 use Rattle.query_text.specs.declared.fault.AnswerFault.{AnswerFault}
 use Rattle.query_text.specs.declared.fault.AnswerFault.TheVariants as answers
-use Rattle.query_text.specs.Answered.{HasAnswerCause, HasWriteCause, IsBlamed}
+use Rattle.query_text.specs.Answered.{HasWriteCause, IsBlamed, print_causes, why_not_printed}
 use Rattle.query_text.proofs.Showing.{cause_later}
 use Rattle.graspan_top.specs.Faults.{of_answer}
 use Rattle.graspan_top.specs.Given.{Given}
@@ -102,7 +103,7 @@ module _ (x : Given) (w : Wants) (Ready : Manifest → Type 0) (Undone : Manifes
     pub current_ready : IsTrue x.tells → (m : Manifest) × HasCurrent x.before m × Ready m
     current_ready tells = (s.manifest, (s.slot, (held tells).current), ready)
 
-    pub print_explains : (T : Type 0) (writes writes' before now : ℕ) (f : AnswerFault) → HasAnswerCause {T = T} writes writes' before now (IsBlamed s x.tells x.before (w.first s) (w.number s)) (Err f) → LookExplains x w Ready Undone Unknown (Rose before now) (Rose writes writes') (of_answer f)
+    pub print_explains : (T : Type 0) (writes writes' before now : ℕ) (f : AnswerFault) → HasReason {T = T} why_not_printed (print_causes (Rose writes writes') (Rose before now) (IsBlamed s x.tells x.before (w.first s) (w.number s))) (Err f) → LookExplains x w Ready Undone Unknown (Rose before now) (Rose writes writes') (of_answer f)
     print_explains T writes writes' before now answers.DiskFault h = h
     print_explains T writes writes' before now (answers.BadStore f p k) h = λ tells. loading s (held tells) ready (subst (λ (b : Bool). IsBlamed s b x.before (w.first s) (w.number s) f p k) tells h)
     print_explains T writes writes' before now answers.WriteFault h = (h, current_ready)
@@ -115,7 +116,7 @@ module _ (x : Given) (w : Wants) (Ready : Manifest → Type 0) (Undone : Manifes
     write_explains T writes writes' rose answers.NoMemory h = absurd h
 
     -- a call that prints fails
-    pub printing_refused : {T : Type 0} (U : Type 0) (writes writes' before mid now : ℕ) (seen : Contents) (f : AnswerFault) (r : Result T Status) → IsErrAnd r (λ y. y ≡ of_answer f) → before ≤ mid → seen ≡ x.before → HasAnswerCause {T = U} writes writes' mid now (IsBlamed s x.tells seen (w.first s) (w.number s)) (Err f) → LookExplains x w Ready Undone Unknown (Rose before now) (Rose writes writes') (status_of r)
+    pub printing_refused : {T : Type 0} (U : Type 0) (writes writes' before mid now : ℕ) (seen : Contents) (f : AnswerFault) (r : Result T Status) → IsErrAnd r (λ y. y ≡ of_answer f) → before ≤ mid → seen ≡ x.before → HasReason {T = U} why_not_printed (print_causes (Rose writes writes') (Rose mid now) (IsBlamed s x.tells seen (w.first s) (w.number s))) (Err f) → LookExplains x w Ready Undone Unknown (Rose before now) (Rose writes writes') (status_of r)
     printing_refused {T} U writes writes' before mid now seen f r is later same h =
         let same_store = λ (file place : ℕ) (kind : FormKind) (b : IsBlamed s x.tells seen (w.first s) (w.number s) file place kind). subst (λ (c : Contents). IsBlamed s x.tells c (w.first s) (w.number s) file place kind) same b in
         let cause = cause_later writes writes writes' before mid now (IsBlamed s x.tells seen (w.first s) (w.number s)) (IsBlamed s x.tells x.before (w.first s) (w.number s)) U U f (omega arith) later same_store h in

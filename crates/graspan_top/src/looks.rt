@@ -1,14 +1,16 @@
 //! The commands that only read a store: `query`, `dump` and `parts`.
 ghost use Rattle.std.specs.Prelude.{◌≡◌, ◌≤◌, ◌<◌, ◌++◌, [], ℕ, List, Option, Some, IsTrue, IfErr, IfOk, OnOk, length};
+ghost use Rattle.faults.specs.Reasons.{HasReason};
+ghost use Rattle.io_edge.specs.View.{WriteRose};
 ghost use Rattle.faults.specs.Counts.{Rose};
 ghost use Rattle.io_edge.specs.Devices.{AppendsPrefix};
-ghost use Rattle.disk_model.specs.View.{OnlyLooks};
+ghost use Rattle.disk_model.specs.View.{DiskRose, OnlyLooks};
 ghost use Rattle.graph_words.specs.declared.types.Born.{Born as ABorn};
 ghost use Rattle.manifest_codec.specs.Spelling.{Fits};
 ghost use Rattle.store_law.specs.Left.{IsDone};
 ghost use Rattle.open_store.specs.Store.{IsHeld};
 ghost use Rattle.query_text.specs.Text.{answers_in, answers_text};
-ghost use Rattle.query_text.specs.Answered.{HasAnswerCause, IsBlamed, IsPrinted, first_asked};
+ghost use Rattle.query_text.specs.Answered.{IsBlamed, IsPrinted, first_asked, print_causes, why_not_printed};
 ghost use Rattle.graspan_top.specs.declared.status.Status.TheVariants.{NotKnown, Unfinished};
 ghost use Rattle.graspan_top.specs.Looks.{AreVerticesOf, DumpExplains, IsDumpFront, IsDumpText, IsPartsText};
 ghost use Rattle.graspan_top.specs.Looks.{IsQueryText, IsUnfinished, PartsExplains, QueryExplains};
@@ -152,8 +154,7 @@ fn print_query<D: Disk, O: Sink>(
     ensures looks { OnlyLooks D.Disk disk.old disk.new }
     ensures later { D.faults disk.old ≤ D.faults disk.new }
     ensures writes { O.faults out.old ≤ O.faults out.new }
-    ensures cause { HasAnswerCause (O.faults out.old) (O.faults out.new) (D.faults disk.old) (D.faults disk.new)
-        (IsBlamed store.now D.tells (D.seen disk.old) (first_asked store.now (Some ends.from)) 1) result }
+    ensures cause { HasReason why_not_printed (print_causes (WriteRose O.Sink out.old out.new) (DiskRose D.Disk disk.old disk.new) (IsBlamed store.now D.tells (D.seen disk.old) (first_asked store.now (Some ends.from)) 1)) result }
 {
     let count = answers(alloc, disk, store, label, Some(ends.from), ends.to, out)?;
     out.write(count_line(count).as_slice())?;

@@ -1,18 +1,19 @@
 //! The command `run`: imports or resumes, closes and prints.
 ghost use Rattle.std.specs.Prelude.{◌≡◌, ◌≢◌, ◌≤◌, ◌++◌, ℕ, List, Option, Some, IsTrue, IfErr, IfOk, OnOk, OnErr, length, option_map};
+ghost use Rattle.faults.specs.Reasons.{HasReason};
 ghost use Rattle.graph_words.specs.declared.types.Born.{Born as ABorn};
 ghost use Rattle.faults.specs.Counts.{Rose};
 ghost use Rattle.io_edge.specs.Devices.{AppendsPrefix, Takes};
-ghost use Rattle.io_edge.specs.View.{NoCountFalls};
+ghost use Rattle.io_edge.specs.View.{NoCountFalls, WriteRose};
 ghost use Rattle.closing_machine.specs.Parts.{all_edges};
 ghost use Rattle.disk_model.specs.Disk.{Contents};
-ghost use Rattle.disk_model.specs.View.{OnlyLooks};
+ghost use Rattle.disk_model.specs.View.{DiskRose, OnlyLooks};
 ghost use Rattle.store_law.specs.Left.{IsDone, IsLeft};
 ghost use Rattle.store_law.specs.Listed.{AreExact};
 ghost use Rattle.open_store.specs.Store.{IsHeld};
 ghost use Rattle.store.specs.Import.{texts_of};
 ghost use Rattle.query_text.specs.Text.{head_text, tally_text};
-ghost use Rattle.query_text.specs.Answered.{AreListedIn, HasAnswerCause, IsBlamed};
+ghost use Rattle.query_text.specs.Answered.{AreListedIn, IsBlamed, print_causes, why_not_printed};
 ghost use Rattle.graspan_top.specs.declared.status.Status.TheVariants.{Done};
 ghost use Rattle.graspan_top.specs.Given.{Given as AGiven};
 ghost use Rattle.graspan_top.specs.Printed.{Begins, IsNothingOr, PrintsFirst, status_of};
@@ -45,8 +46,7 @@ fn print_shown<D: Disk, O: Sink>(
     ensures looks { OnlyLooks D.Disk disk.old disk.new }
     ensures later { D.faults disk.old ≤ D.faults disk.new }
     ensures writes { O.faults out.old ≤ O.faults out.new }
-    ensures cause { HasAnswerCause (O.faults out.old) (O.faults out.new) (D.faults disk.old) (D.faults disk.new)
-        (IsBlamed store.now D.tells (D.seen disk.old) 0 (length store.now.manifest.parts)) result }
+    ensures cause { HasReason why_not_printed (print_causes (WriteRose O.Sink out.old out.new) (DiskRose D.Disk disk.old disk.new) (IsBlamed store.now D.tells (D.seen disk.old) 0 (length store.now.manifest.parts))) result }
 {
     match shown {
         None => Ok(()),
@@ -76,8 +76,7 @@ fn print_run<D: Disk, O: Sink>(
     ensures looks { OnlyLooks D.Disk disk.old disk.new }
     ensures later { D.faults disk.old ≤ D.faults disk.new }
     ensures writes { O.faults out.old ≤ O.faults out.new }
-    ensures cause { HasAnswerCause (O.faults out.old) (O.faults out.new) (D.faults disk.old) (D.faults disk.new)
-        (IsBlamed store.now D.tells (D.seen disk.old) 0 (length store.now.manifest.parts)) result }
+    ensures cause { HasReason why_not_printed (print_causes (WriteRose O.Sink out.old out.new) (DiskRose D.Disk disk.old disk.new) (IsBlamed store.now D.tells (D.seen disk.old) 0 (length store.now.manifest.parts))) result }
 {
     head(store, out)?;
     tally(alloc, disk, store, out)?;

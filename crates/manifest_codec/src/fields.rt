@@ -74,7 +74,7 @@ pub(crate) fn u64_at(bytes: &[u8]) -> Result<(u64, &[u8]), FieldError>
 }
 
 /// The magic of the first version, and the numbers behind it.
-#[tactic(auto, unfolding(crate::specs::Reading::head_at))]
+#[tactic(auto, unfolding(crate::specs::FieldsRead::head_at))]
 pub(crate) fn head_of(bytes: &[u8]) -> Result<(Head, &[u8]), FieldError>
     ensures { Gives (λ x. (x.0, x.1.now)) result (head_at First bytes.now) }
 {

@@ -11,7 +11,7 @@ use label_table::LabelTable;
 use std::alloc::Global;
 
 /// A label that doesn't stand in the table, which it joins. The bytes behind it are left.
-#[tactic(auto, unfolding(crate::specs::Reading::label_at))]
+#[tactic(auto, unfolding(crate::specs::FieldsRead::label_at))]
 fn label_of<'a>(labels: &mut LabelTable, bytes: &'a [u8]) -> Result<&'a [u8], FieldError>
     requires { length labels.old < 1000 }
     ensures { Gives (λ rest. (labels.new, rest.now)) result (label_at labels.old bytes.now) }

@@ -7,8 +7,8 @@ ghost use Rattle.manifest_codec.specs.Rules.{magic_of, newest_version};
 ghost use Rattle.manifest_codec.specs.Spelling.{Fits, longest, spelling, Spells};
 ghost use Rattle.manifest_codec.specs.FieldsRead.{Answers, reading, manifest_in};
 
-use crate::decode::decode;
-use crate::encode::encode;
+use crate::decoder::decode;
+use crate::encoder::encode;
 use crate::types::{Manifest, ManifestError};
 use std::alloc::Global;
 

@@ -2,8 +2,8 @@
 #![tactic(auto)]
 
 mod cells;
-mod decode;
-mod encode;
+mod decoder;
+mod encoder;
 mod fields;
 mod labels;
 mod laws;
@@ -11,8 +11,8 @@ mod parts;
 mod prefix_law;
 mod types;
 
-pub use decode::decode;
-pub use encode::encode;
+pub use decoder::decode;
+pub use encoder::encode;
 pub use fields::labels_place;
 pub use laws::{
     encode_then_decode, has_bytes, longest_spelling, magics_are_spelled, no_shared_spelling,

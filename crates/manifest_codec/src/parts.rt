@@ -16,7 +16,7 @@ fn has_file(before: &[PartEntry], file: u32) -> bool
 }
 
 /// A partition and its newest birth, with `left` more behind it, and these before it, which end at `low`.
-#[tactic(auto, unfolding(crate::specs::Reading::part_at))]
+#[tactic(auto, unfolding(crate::specs::FieldsRead::part_at))]
 fn part_of<'a>(
     head: &Head,
     left: u16,

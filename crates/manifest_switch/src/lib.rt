@@ -4,13 +4,13 @@
 mod other_gate;
 mod gates;
 mod law;
-mod current;
+mod current_slot;
 mod slot;
-mod switch;
+mod slot_switch;
 
 pub use other_gate::close_other;
 pub use gates::{close_gate, open_gate, write_body};
 pub use law::{current_in_words, current_is_held};
-pub use current::current;
+pub use current_slot::current;
 pub use slot::{Found, OpenFault, Slot, SwitchFault};
-pub use switch::switch;
+pub use slot_switch::switch;

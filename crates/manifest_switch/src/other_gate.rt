@@ -9,7 +9,7 @@ ghost use Rattle.manifest_switch.specs.Slots.{file_of, other, is_open, current_o
 ghost use Rattle.manifest_switch.specs.Steps.{Keeps};
 
 use crate::gates::close_gate;
-use crate::current::open_len;
+use crate::current_slot::open_len;
 use crate::slot::Slot;
 use disk_model::{Disk, Failed};
 

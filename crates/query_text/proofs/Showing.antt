@@ -6,6 +6,9 @@ use Rattle.std.proofs.lemmas.Grind.{flat_map-append}
 use Rattle.std.proofs.lemmas.List.{length-take, take_more}
 use Rattle.std.proofs.lemmas.List.Elements.{filter-append}
 use Rattle.std.proofs.lemmas.List.Sums.{count_by-le-length, length-filter}
+use Rattle.faults.specs.Counts.{Rose}
+use Rattle.faults.specs.Reasons.{HasReason, Holds, Implies, blames_none, disk_causes}
+use Rattle.faults.proofs.Handed.{holds_more}
 use Rattle.io_edge.specs.Devices.{AppendsPrefix}
 use Rattle.graph_words.specs.declared.types.Born.{Born}
 use Rattle.closing_machine.specs.Parts.{all_edges}
@@ -15,7 +18,7 @@ use Rattle.manifest_codec.specs.declared.types.Manifest.{Manifest}
 use Rattle.store_law.specs.Listed.{part_file}
 use Rattle.open_store.specs.Store.{IsOpenStore, OpenStore}
 use Rattle.open_store.specs.PartRead.{IsRead, IsRefused}
-use Rattle.query_text.specs.Answered.{AreRead, HasAnswerCause, IsBlamed, IsPrinted}
+use Rattle.query_text.specs.Answered.{AreRead, IsBlamed, IsPrinted, print_causes, why_not_printed}
 use Rattle.query_text.specs.Shown.{Gathers, HasGathered, IsGathered, is_shown, line_of, shown_in, shown_text}
 use Rattle.query_text.specs.declared.fault.AnswerFault.{AnswerFault}
 use Rattle.query_text.specs.declared.fault.AnswerFault.TheVariants.{BadStore, DiskFault, NoMemory, WriteFault}
@@ -153,26 +156,38 @@ module _ (s : OpenStore) (tells : Bool) (show : Show) (seen : Contents) where
       let more : (i - first) + 1 ≤ end - first = omega (arith, order, below) in
       blamed_later s tells seen show first (i - first) i (end - first) file place kind xs at more all read (subst (λ (l : Contents). IsBlamed s tells l i 1 file place kind) same b)
 
--- a cause that a call behind others has is one of all
-pub cause_later : (w0 w1 w2 d0 d1 d2 : ℕ) (bad worse : ℕ → ℕ → FormKind → Type 0) (T U : Type 0) (f : AnswerFault) → w0 ≤ w1 → d0 ≤ d1 → ((file place : ℕ) (kind : FormKind) → bad file place kind → worse file place kind) → HasAnswerCause {T = T} w1 w2 d1 d2 bad (Err f) → HasAnswerCause {T = U} w0 w2 d0 d2 worse (Err f)
-cause_later w0 w1 w2 d0 d1 d2 bad worse T U WriteFault w d up h = omega (arith, w, h)
-cause_later w0 w1 w2 d0 d1 d2 bad worse T U DiskFault w d up h = omega (arith, d, h)
-cause_later w0 w1 w2 d0 d1 d2 bad worse T U (BadStore file place kind) w d up h = up file place kind h
-cause_later w0 w1 w2 d0 d1 d2 bad worse T U NoMemory w d up h = tt
+-- a cause of a part of a call is one of the whole
+pub print_more : (write_rose risen disk_rose later : Type 0) (bad worse : ℕ → ℕ → FormKind → Type 0) → (write_rose → risen) → (disk_rose → later)
+    → ((file place : ℕ) (kind : FormKind) → bad file place kind → worse file place kind)
+    → Implies (print_causes write_rose disk_rose bad) (print_causes risen later worse)
+print_more write_rose risen disk_rose later bad worse w d up =
+    record {
+      reads = λ h. h;
+      disk = d;
+      writes = w;
+      text = λ file line kind h. h;
+      other = λ file place h. h;
+      bad = up;
+      words = λ h. h;
+      none = λ h. h;
+      left = λ i j h. h;
+      unknown = λ h. h;
+    }
 
--- a cause of the disk alone
-pub cause_of_disk : (w0 w1 d0 d1 d2 : ℕ) (bad worse : ℕ → ℕ → FormKind → Type 0) (T U : Type 0) (f : AnswerFault) → d0 ≤ d1 → ((file place : ℕ) (kind : FormKind) → bad file place kind → worse file place kind) → HasAnswerCause {T = T} 0 0 d1 d2 bad (Err f) → HasAnswerCause {T = U} w0 w1 d0 d2 worse (Err f)
-cause_of_disk w0 w1 d0 d1 d2 bad worse T U WriteFault d up h = absurd (omega (arith, h))
-cause_of_disk w0 w1 d0 d1 d2 bad worse T U DiskFault d up h = omega (arith, d, h)
-cause_of_disk w0 w1 d0 d1 d2 bad worse T U (BadStore file place kind) d up h = up file place kind h
-cause_of_disk w0 w1 d0 d1 d2 bad worse T U NoMemory d up h = tt
+-- one behind others
+pub cause_later : (w0 w1 w2 d0 d1 d2 : ℕ) (bad worse : ℕ → ℕ → FormKind → Type 0) (f : AnswerFault) → w0 ≤ w1 → d0 ≤ d1 → ((file place : ℕ) (kind : FormKind) → bad file place kind → worse file place kind) → Holds (print_causes (Rose w1 w2) (Rose d1 d2) bad) (why_not_printed f) → Holds (print_causes (Rose w0 w2) (Rose d0 d2) worse) (why_not_printed f)
+cause_later w0 w1 w2 d0 d1 d2 bad worse f w d up =
+    holds_more _ _ (print_more (Rose w1 w2) (Rose w0 w2) (Rose d1 d2) (Rose d0 d2) bad worse (λ h. omega (arith, w, h)) (λ h. omega (arith, d, h)) up) (why_not_printed f)
+
+-- one of the disk alone
+pub cause_of_disk : (w0 w1 d0 d1 d2 : ℕ) (bad worse : ℕ → ℕ → FormKind → Type 0) (f : AnswerFault) → d0 ≤ d1 → ((file place : ℕ) (kind : FormKind) → bad file place kind → worse file place kind) → Holds (disk_causes (Rose d1 d2) bad) (why_not_printed f) → Holds (print_causes (Rose w0 w1) (Rose d0 d2) worse) (why_not_printed f)
+cause_of_disk w0 w1 d0 d1 d2 bad worse f d up =
+    holds_more _ _ (print_more ⊥ (Rose w0 w1) (Rose d1 d2) (Rose d0 d2) bad worse (λ h. absurd h) (λ h. omega (arith, d, h)) up) (why_not_printed f)
 
 -- and of the sink alone
-pub cause_of_sink : (w0 w1 w2 d0 d1 : ℕ) (worse : ℕ → ℕ → FormKind → Type 0) (T U : Type 0) (f : AnswerFault) → w0 ≤ w1 → HasAnswerCause {T = T} w1 w2 0 0 (λ file place kind. ⊥) (Err f) → HasAnswerCause {T = U} w0 w2 d0 d1 worse (Err f)
-cause_of_sink w0 w1 w2 d0 d1 worse T U WriteFault w h = omega (arith, w, h)
-cause_of_sink w0 w1 w2 d0 d1 worse T U DiskFault w h = absurd (omega (arith, h))
-cause_of_sink w0 w1 w2 d0 d1 worse T U (BadStore file place kind) w h = absurd h
-cause_of_sink w0 w1 w2 d0 d1 worse T U NoMemory w h = tt
+pub cause_of_sink : (w0 w1 w2 d0 d1 : ℕ) (worse : ℕ → ℕ → FormKind → Type 0) (f : AnswerFault) → w0 ≤ w1 → Holds (print_causes (Rose w1 w2) ⊥ blames_none) (why_not_printed f) → Holds (print_causes (Rose w0 w2) (Rose d0 d1) worse) (why_not_printed f)
+cause_of_sink w0 w1 w2 d0 d1 worse f w =
+    holds_more _ _ (print_more (Rose w1 w2) (Rose w0 w2) ⊥ (Rose d0 d1) blames_none worse (λ h. omega (arith, w, h)) (λ h. absurd h) (λ file place kind h. absurd h)) (why_not_printed f)
 
 -- the one partition that was to be read is blamed
 pub blamed_one : (s : OpenStore) (tells : Bool) (c : Contents) (i file place : ℕ) (kind : FormKind) → i < length s.manifest.parts → file ≡ part_file s.manifest i → (IsTrue tells → IsRefused s i (c file) place kind) → IsBlamed s tells c i 1 file place kind
@@ -218,12 +233,12 @@ handed_on T (Ok x) e is = absurd is
 handed_on T (Err x) e is = ap (λ (f : AnswerFault). Err f) is
 
 -- the partition that was to be read is why
-pub cause_of_load : (s : OpenStore) (tells : Bool) (c : Contents) (i w d0 d1 : ℕ) (T U : Type 0) (f : AnswerFault) (r : Result U AnswerFault) → i < length s.manifest.parts → r ≡ Err f → HasAnswerCause {T = T} 0 0 d0 d1 (λ file place kind. (file ≡ part_file s.manifest i) × (IsTrue tells → IsRefused s i (c file) place kind)) (Err f) → HasAnswerCause w w d0 d1 (IsBlamed s tells c i 1) r
-cause_of_load s tells c i w d0 d1 T U f r there is h =
-    rw is (cause_of_disk w w d0 d0 d1 (λ file place kind. (file ≡ part_file s.manifest i) × (IsTrue tells → IsRefused s i (c file) place kind)) (IsBlamed s tells c i 1) T U f (omega arith) (λ file place kind b. blamed_one s tells c i file place kind there b.0 b.1) h)
+pub cause_of_load : (s : OpenStore) (tells : Bool) (c : Contents) (i w d0 d1 : ℕ) (U : Type 0) (f : AnswerFault) (r : Result U AnswerFault) → i < length s.manifest.parts → r ≡ Err f → Holds (disk_causes (Rose d0 d1) (λ file place kind. (file ≡ part_file s.manifest i) × (IsTrue tells → IsRefused s i (c file) place kind))) (why_not_printed f) → HasReason why_not_printed (print_causes (Rose w w) (Rose d0 d1) (IsBlamed s tells c i 1)) r
+cause_of_load s tells c i w d0 d1 U f r there is h =
+    rw is (cause_of_disk w w d0 d0 d1 (λ file place kind. (file ≡ part_file s.manifest i) × (IsTrue tells → IsRefused s i (c file) place kind)) (IsBlamed s tells c i 1) f (omega arith) (λ file place kind b. blamed_one s tells c i file place kind there b.0 b.1) h)
 
-pub cause_handed_on : (w0 w1 w2 d0 d1 d2 : ℕ) (bad worse : ℕ → ℕ → FormKind → Type 0) (T U : Type 0) (f : AnswerFault) (r : Result U AnswerFault) → r ≡ Err f → w0 ≤ w1 → d0 ≤ d1 → ((file place : ℕ) (kind : FormKind) → bad file place kind → worse file place kind) → HasAnswerCause {T = T} w1 w2 d1 d2 bad (Err f) → HasAnswerCause w0 w2 d0 d2 worse r
-cause_handed_on w0 w1 w2 d0 d1 d2 bad worse T U f r is w d up h = rw is (cause_later w0 w1 w2 d0 d1 d2 bad worse T U f w d up h)
+pub cause_handed_on : (w0 w1 w2 d0 d1 d2 : ℕ) (bad worse : ℕ → ℕ → FormKind → Type 0) (U : Type 0) (f : AnswerFault) (r : Result U AnswerFault) → r ≡ Err f → w0 ≤ w1 → d0 ≤ d1 → ((file place : ℕ) (kind : FormKind) → bad file place kind → worse file place kind) → Holds (print_causes (Rose w1 w2) (Rose d1 d2) bad) (why_not_printed f) → HasReason why_not_printed (print_causes (Rose w0 w2) (Rose d0 d2) worse) r
+cause_handed_on w0 w1 w2 d0 d1 d2 bad worse U f r is w d up h = rw is (cause_later w0 w1 w2 d0 d1 d2 bad worse f w d up h)
 
 module _ (s : OpenStore) (tells : Bool) (c : Contents) (T : Type 0) (text : List Born → List ℕ) where
   -- nothing was read or printed

@@ -1,8 +1,8 @@
 -- What of a store was read and printed, and why a call has no answer.
-use Rattle.std.specs.Prelude.{◌≡◌, ℕ, ◌+◌, ◌≤◌, ◌<◌, Bool, IsTrue, List, [], length, slice_index_or, Option, None, Some, Result, Ok, Err, OnOk}
+use Rattle.std.specs.Prelude.{◌≡◌, ℕ, ◌+◌, ◌≤◌, ◌<◌, Bool, IsTrue, List, [], length, slice_index_or, Option, None, Some, Result, OnOk}
 use Rattle.graph_words.specs.declared.types.Born.{Born}
 use Rattle.normal_law.specs.NormalForm.{normal_form}
-use Rattle.faults.specs.Counts.{Rose}
+use Rattle.faults.specs.Reasons.{Causes, Why, broken, disk_failed, no_cause, no_memory, write_failed}
 use Rattle.io_edge.specs.Devices.{Takes}
 use Rattle.closing_machine.specs.State.{place}
 use Rattle.closing_machine.specs.Parts.{all_edges}
@@ -50,18 +50,14 @@ pub record IsBlamed (s : OpenStore) (tells : Bool) (c : Contents) (first wanted 
   pub file_is : file ≡ part_file s.manifest (first + length read)
   pub refused : IsTrue tells → IsRefused s (first + length read) (c file) place kind
 
--- a call fails where the sink's count rose, or the disk's, or a file is blamed for this cause. Want of memory is free.
-abbrev pub HasAnswerCause : {T : Type 0} → ℕ → ℕ → ℕ → ℕ → (ℕ → ℕ → FormKind → Type 0) → Result T AnswerFault → Type 0
-HasAnswerCause writes_before writes_now before now bad (Ok x) = Unit {0}
-HasAnswerCause writes_before writes_now before now bad (Err WriteFault) = Rose writes_before writes_now
-HasAnswerCause writes_before writes_now before now bad (Err DiskFault) = Rose before now
-HasAnswerCause writes_before writes_now before now bad (Err (BadStore file place kind)) = bad file place kind
-HasAnswerCause writes_before writes_now before now bad (Err NoMemory) = Unit {0}
+-- the reason of each fault
+abbrev pub why_not_printed : AnswerFault → Why
+why_not_printed WriteFault = write_failed
+why_not_printed DiskFault = disk_failed
+why_not_printed (BadStore file place kind) = broken file place kind
+why_not_printed NoMemory = no_memory
 
--- a call fails only where the sink's count rose
-abbrev pub HasWriteCause : {T : Type 0} → ℕ → ℕ → Result T AnswerFault → Type 0
-HasWriteCause before now (Ok x) = Unit {0}
-HasWriteCause before now (Err WriteFault) = Rose before now
-HasWriteCause before now (Err DiskFault) = ⊥
-HasWriteCause before now (Err (BadStore file place kind)) = ⊥
-HasWriteCause before now (Err NoMemory) = ⊥
+-- why a call that prints what a disk lists has no answer: the sink's count rose, or the disk's, or a file is blamed for
+-- this cause
+abbrev pub print_causes : Type 0 → Type 0 → (ℕ → ℕ → FormKind → Type 0) → Causes
+print_causes write_rose disk_rose bad = record no_cause { writes = write_rose; disk = disk_rose; bad = bad }

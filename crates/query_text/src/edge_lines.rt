@@ -1,12 +1,14 @@
 //! The answers of a label, and all edges.
 ghost use Rattle.std.specs.Prelude.{◌≡◌, ◌+◌, ◌<◌, ◌≤◌, IsTrue, List, length, IfOk, IfSome};
-ghost use Rattle.disk_model.specs.View.{OnlyLooks};
+ghost use Rattle.faults.specs.Reasons.{HasReason};
+ghost use Rattle.io_edge.specs.View.{WriteRose};
+ghost use Rattle.disk_model.specs.View.{DiskRose, OnlyLooks};
 ghost use Rattle.graph_words.specs.declared.types.Born.{Born as ABorn};
 ghost use Rattle.io_edge.specs.Devices.{Takes};
 ghost use Rattle.closing_machine.specs.Parts.{all_edges};
 ghost use Rattle.open_store.specs.Store.{IsOpenStore};
 ghost use Rattle.query_text.specs.Text.{answers_in, answers_text, dump_text};
-ghost use Rattle.query_text.specs.Answered.{AreListedIn, HasAnswerCause, IsBlamed, IsPrinted, first_asked, wanted};
+ghost use Rattle.query_text.specs.Answered.{AreListedIn, IsBlamed, IsPrinted, first_asked, print_causes, wanted, why_not_printed};
 
 use crate::fault::AnswerFault;
 use crate::show::Show;
@@ -71,8 +73,7 @@ pub fn answers<D: Disk, O: Sink>(
     ensures looks { OnlyLooks D.Disk disk.old disk.new }
     ensures later { D.faults disk.old ≤ D.faults disk.new }
     ensures writes { O.faults sink.old ≤ O.faults sink.new }
-    ensures cause { HasAnswerCause (O.faults sink.old) (O.faults sink.new) (D.faults disk.old) (D.faults disk.new)
-        (IsBlamed store.now D.tells (D.seen disk.old) (first_asked store.now from) (wanted store.now from)) result }
+    ensures cause { HasReason why_not_printed (print_causes (WriteRose O.Sink sink.old sink.new) (DiskRose D.Disk disk.old disk.new) (IsBlamed store.now D.tells (D.seen disk.old) (first_asked store.now from) (wanted store.now from))) result }
 {
     let (first, end) = partitions_of(store, from);
     let show = Show::Label { label, from, to };
@@ -102,8 +103,7 @@ pub fn dump<D: Disk, O: Sink>(
     ensures looks { OnlyLooks D.Disk disk.old disk.new }
     ensures later { D.faults disk.old ≤ D.faults disk.new }
     ensures writes { O.faults sink.old ≤ O.faults sink.new }
-    ensures cause { HasAnswerCause (O.faults sink.old) (O.faults sink.new) (D.faults disk.old) (D.faults disk.new)
-        (IsBlamed store.now D.tells (D.seen disk.old) 0 (length store.now.manifest.parts)) result }
+    ensures cause { HasReason why_not_printed (print_causes (WriteRose O.Sink sink.old sink.new) (DiskRose D.Disk disk.old disk.new) (IsBlamed store.now D.tells (D.seen disk.old) 0 (length store.now.manifest.parts))) result }
 {
     let end = store.intervals().len();
     show_parts(alloc, disk, store, 0, end, &Show::Named, sink)?;

@@ -1,6 +1,8 @@
 //! How many edges each label has.
 ghost use Rattle.std.specs.Prelude.{◌≡◌, ◌<◌, ◌≤◌, ◌+◌, ◌++◌, ◌^◌, ◌∷◌, [], ℕ, IsTrue, List, length, slice_index_or, IfOk, OnOk, OnErr};
-ghost use Rattle.disk_model.specs.View.{OnlyLooks};
+ghost use Rattle.faults.specs.Reasons.{HasReason, blames_none};
+ghost use Rattle.io_edge.specs.View.{WriteRose};
+ghost use Rattle.disk_model.specs.View.{DiskRose, OnlyLooks, on_disk};
 ghost use Rattle.graph_words.specs.declared.types.Born.{Born as ABorn};
 ghost use Rattle.faults.specs.Counts.{HasCause};
 ghost use Rattle.io_edge.specs.Devices.{Takes};
@@ -8,7 +10,7 @@ ghost use Rattle.closing_machine.specs.Parts.{all_edges};
 ghost use Rattle.label_table.specs.Names.{IsTable};
 ghost use Rattle.open_store.specs.Store.{IsOpenStore};
 ghost use Rattle.query_text.specs.Text.{tally_text};
-ghost use Rattle.query_text.specs.Answered.{AreListedIn, AreRead, HasAnswerCause, IsBlamed, IsPrinted};
+ghost use Rattle.query_text.specs.Answered.{AreListedIn, AreRead, IsBlamed, IsPrinted, print_causes, why_not_printed};
 ghost use Rattle.query_text.specs.Shown.{AreTallied, Gathers};
 
 use crate::fault::AnswerFault;
@@ -61,8 +63,7 @@ fn count_part<D: Disk>(
         × (length read ≡ i + 1) × AreTallied (length store.now.manifest.labels) (all_edges read) counts.new.items) }
     ensures looks { OnlyLooks D.Disk disk.old disk.new }
     ensures later { D.faults disk.old ≤ D.faults disk.new }
-    ensures cause { HasAnswerCause 0 0 (D.faults disk.old) (D.faults disk.new)
-        (IsBlamed store.now D.tells (D.seen disk.old) 0 (length store.now.manifest.parts)) result }
+    ensures cause { HasReason why_not_printed (on_disk D.Disk disk.old disk.new (IsBlamed store.now D.tells (D.seen disk.old) 0 (length store.now.manifest.parts))) result }
 {
     let part = load(alloc, disk, store, i)?;
     count_edges(counts, part.edges());
@@ -80,8 +81,7 @@ fn count_labels<D: Disk>(
         × AreTallied (length store.now.manifest.labels) (all_edges read) v.items) }
     ensures looks { OnlyLooks D.Disk disk.old disk.new }
     ensures later { D.faults disk.old ≤ D.faults disk.new }
-    ensures cause { HasAnswerCause 0 0 (D.faults disk.old) (D.faults disk.new)
-        (IsBlamed store.now D.tells (D.seen disk.old) 0 (length store.now.manifest.parts)) result }
+    ensures cause { HasReason why_not_printed (on_disk D.Disk disk.old disk.new (IsBlamed store.now D.tells (D.seen disk.old) 0 (length store.now.manifest.parts))) result }
 {
     let mut counts = vec![in alloc; 0; store.manifest().labels.len()]?;
     for i in 0..store.intervals().len() {
@@ -120,7 +120,7 @@ fn print_lines<O: Sink>(
     ensures taken { (edges : List ABorn) → AreTallied (length table.now) edges counts.now
         → Takes (O.told sink.old) (O.told sink.new) result (tally_text table.now edges) }
     ensures writes { O.faults sink.old ≤ O.faults sink.new }
-    ensures cause { HasAnswerCause (O.faults sink.old) (O.faults sink.new) 0 0 (λ file place kind. ⊥) result }
+    ensures cause { HasReason why_not_printed (print_causes (WriteRose O.Sink sink.old sink.new) ⊥ blames_none) result }
 {
     let mut page = Page::new(alloc)?;
     put_lines(&mut page, sink, table.names(), counts)?;
@@ -152,8 +152,7 @@ pub fn tally<D: Disk, O: Sink>(
     ensures looks { OnlyLooks D.Disk disk.old disk.new }
     ensures later { D.faults disk.old ≤ D.faults disk.new }
     ensures writes { O.faults sink.old ≤ O.faults sink.new }
-    ensures cause { HasAnswerCause (O.faults sink.old) (O.faults sink.new) (D.faults disk.old) (D.faults disk.new)
-        (IsBlamed store.now D.tells (D.seen disk.old) 0 (length store.now.manifest.parts)) result }
+    ensures cause { HasReason why_not_printed (print_causes (WriteRose O.Sink sink.old sink.new) (DiskRose D.Disk disk.old disk.new) (IsBlamed store.now D.tells (D.seen disk.old) 0 (length store.now.manifest.parts))) result }
 {
     let counts = count_labels(alloc, disk, store)?;
     print_lines(alloc, sink, &store.manifest().labels, &counts)

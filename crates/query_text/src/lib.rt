@@ -2,7 +2,7 @@
 #![tactic(auto)]
 
 mod fault;
-mod head;
+mod head_lines;
 mod laws;
 mod lines;
 mod edge_lines;
@@ -13,7 +13,7 @@ mod label_counts;
 mod walk;
 
 pub use fault::AnswerFault;
-pub use head::{head, parts};
+pub use head_lines::{head, parts};
 pub use laws::{answers_stand_in_their_partition, edges_are_those_listed};
 pub use edge_lines::{answers, dump};
 pub use label_counts::tally;

@@ -1,9 +1,10 @@
 //! Partitions are loaded.
 ghost use Rattle.std.specs.Prelude.{◌≡◌, ◌<◌, ◌≤◌, IsTrue, IfOk, length};
-ghost use Rattle.disk_model.specs.View.{OnlyLooks};
+ghost use Rattle.faults.specs.Reasons.{HasReason};
+ghost use Rattle.query_text.specs.Answered.{why_not_printed};
+ghost use Rattle.disk_model.specs.View.{OnlyLooks, on_disk};
 ghost use Rattle.store_law.specs.Listed.{part_file, part_of};
 ghost use Rattle.open_store.specs.PartRead.{IsRead, IsRefused};
-ghost use Rattle.query_text.specs.Answered.{HasAnswerCause};
 
 use crate::fault::AnswerFault;
 use disk_model::Disk;
@@ -22,9 +23,8 @@ pub(crate) fn load<D: Disk>(
     ensures read { IfOk result (λ p. IsRead store.now i D.tells (D.seen disk.old (part_file store.now.manifest i)) p.edges) }
     ensures looks { OnlyLooks D.Disk disk.old disk.new }
     ensures later { D.faults disk.old ≤ D.faults disk.new }
-    ensures cause { HasAnswerCause 0 0 (D.faults disk.old) (D.faults disk.new)
-        (λ file place kind. (file ≡ part_file store.now.manifest i)
-        × (IsTrue D.tells → IsRefused store.now i (D.seen disk.old file) place kind)) result }
+    ensures cause { HasReason why_not_printed (on_disk D.Disk disk.old disk.new (λ file place kind. (file ≡ part_file store.now.manifest i)
+        × (IsTrue D.tells → IsRefused store.now i (D.seen disk.old file) place kind))) result }
 {
     match store.load(alloc, disk, i) {
         Ok(part) => Ok(part),

@@ -1,10 +1,12 @@
 //! Partitions are loaded one after the other, and their edges shown.
 ghost use Rattle.std.specs.Prelude.{◌≡◌, ◌<◌, ◌≤◌, ◌+◌, ◌-◌, ℕ, IsTrue, List, length, IfOk};
-ghost use Rattle.disk_model.specs.View.{OnlyLooks};
+ghost use Rattle.faults.specs.Reasons.{HasReason};
+ghost use Rattle.io_edge.specs.View.{WriteRose};
+ghost use Rattle.disk_model.specs.View.{DiskRose, OnlyLooks};
 ghost use Rattle.graph_words.specs.declared.types.Born.{Born as ABorn};
 ghost use Rattle.closing_machine.specs.Parts.{all_edges};
 ghost use Rattle.open_store.specs.Store.{IsOpenStore};
-ghost use Rattle.query_text.specs.Answered.{HasAnswerCause, IsBlamed, IsPrinted};
+ghost use Rattle.query_text.specs.Answered.{IsBlamed, IsPrinted, print_causes, why_not_printed};
 ghost use Rattle.query_text.specs.Shown.{IsGathered, shown_in, shown_text};
 
 use crate::fault::AnswerFault;
@@ -33,8 +35,7 @@ fn show_part<D: Disk, O: Sink>(
     ensures looks { OnlyLooks D.Disk disk.old disk.new }
     ensures later { D.faults disk.old ≤ D.faults disk.new }
     ensures writes { O.faults sink.old ≤ O.faults sink.new }
-    ensures cause { HasAnswerCause (O.faults sink.old) (O.faults sink.new) (D.faults disk.old) (D.faults disk.new)
-        (IsBlamed store.now D.tells (D.seen disk.old) i 1) result }
+    ensures cause { HasReason why_not_printed (print_causes (WriteRose O.Sink sink.old sink.new) (DiskRose D.Disk disk.old disk.new) (IsBlamed store.now D.tells (D.seen disk.old) i 1)) result }
 {
     let part = load(alloc, disk, store, i)?;
     let shown = show.put_edges(page, sink, &store.manifest().labels, part.edges())?;
@@ -61,8 +62,7 @@ fn show_each<D: Disk, O: Sink>(
     ensures looks { OnlyLooks D.Disk disk.old disk.new }
     ensures later { D.faults disk.old ≤ D.faults disk.new }
     ensures writes { O.faults sink.old ≤ O.faults sink.new }
-    ensures cause { HasAnswerCause (O.faults sink.old) (O.faults sink.new) (D.faults disk.old) (D.faults disk.new)
-        (IsBlamed store.now D.tells (D.seen disk.old) first (end - first)) result }
+    ensures cause { HasReason why_not_printed (print_causes (WriteRose O.Sink sink.old sink.new) (DiskRose D.Disk disk.old disk.new) (IsBlamed store.now D.tells (D.seen disk.old) first (end - first))) result }
 {
     let mut shown = 0;
     for i in first..end {
@@ -93,8 +93,7 @@ pub(crate) fn show_parts<D: Disk, O: Sink>(
     ensures looks { OnlyLooks D.Disk disk.old disk.new }
     ensures later { D.faults disk.old ≤ D.faults disk.new }
     ensures writes { O.faults sink.old ≤ O.faults sink.new }
-    ensures cause { HasAnswerCause (O.faults sink.old) (O.faults sink.new) (D.faults disk.old) (D.faults disk.new)
-        (IsBlamed store.now D.tells (D.seen disk.old) first (end - first)) result }
+    ensures cause { HasReason why_not_printed (print_causes (WriteRose O.Sink sink.old sink.new) (DiskRose D.Disk disk.old disk.new) (IsBlamed store.now D.tells (D.seen disk.old) first (end - first))) result }
 {
     let mut page = Page::new(alloc)?;
     let shown = show_each(alloc, disk, store, first, end, show, &mut page, sink)?;

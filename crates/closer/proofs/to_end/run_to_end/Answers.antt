@@ -2,7 +2,7 @@ use Rattle.std.proofs.Common.{◌≡◌, ◌∙◌, refl, subst, arith, inl}
 use Rattle.normal_law.specs.NormalForm.{normal_form}
 use Rattle.store_law.specs.Left.{IsDone}
 use Rattle.open_store.proofs.Causes.{handed}
-use Rattle.closer.specs.declared.step.Stepped.{Stepped}
+use Rattle.closer.specs.declared.one_step.Stepped.{Stepped}
 use Rattle.closer.specs.Answers.{IfAgain, IfFinished, IsStepped}
 use Rattle.closer.proofs.Closings.{closed_here, no_step_there, one_more}
 use Rattle.closer.proofs.Images.{next_behind, nothing, step_before, steps_then}

@@ -1,4 +1,6 @@
-use Rattle.query_text.specs.Answered.{HasAnswerCause, IsBlamed, IsPrinted, first_asked, wanted}
+use Rattle.faults.specs.Counts.{Rose}
+use Rattle.faults.specs.Reasons.{HasReason}
+use Rattle.query_text.specs.Answered.{IsBlamed, IsPrinted, first_asked, print_causes, wanted, why_not_printed}
 use Rattle.query_text.specs.Text.{answers_text}
 use Rattle.query_text.proofs.Listed.{answers_counted, answers_listed, at_asked}
 use Rattle.query_text.proofs.edge_lines.answers.Goals as goal
@@ -34,4 +36,4 @@ returns-clause-cause g c =
     let s = c.args.store.now in
     let from = c.args.from in
     let at = c.partitions_of-first in
-    at_asked (λ f w. HasAnswerCause (faults c.args.sink.now) (faults c.show_parts.new.sink) (D.faults c.args.disk.now) (D.faults c.show_parts.new.disk) (IsBlamed s D.tells (D.seen c.args.disk.now) f w) c.show_parts.result) at.result.0 at.result.1 (first_asked s from) (wanted s from) at.ensures.first at.ensures.end c.show_parts.ensures.cause
+    at_asked (λ f w. HasReason why_not_printed (print_causes (Rose (faults c.args.sink.now) (faults c.show_parts.new.sink)) (Rose (D.faults c.args.disk.now) (D.faults c.show_parts.new.disk)) (IsBlamed s D.tells (D.seen c.args.disk.now) f w)) c.show_parts.result) at.result.0 at.result.1 (first_asked s from) (wanted s from) at.ensures.first at.ensures.end c.show_parts.ensures.cause

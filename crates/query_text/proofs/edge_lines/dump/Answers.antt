@@ -1,6 +1,8 @@
 use Rattle.std.proofs.Common.{◌≡◌, ◌+◌, ℕ, length, refl, arith}
 use Rattle.std.specs.Prelude.{Err, Ok}
-use Rattle.query_text.specs.Answered.{HasAnswerCause, IsBlamed, IsPrinted}
+use Rattle.faults.specs.Counts.{Rose}
+use Rattle.faults.specs.Reasons.{HasReason}
+use Rattle.query_text.specs.Answered.{IsBlamed, IsPrinted, print_causes, why_not_printed}
 use Rattle.query_text.specs.Text.{dump_text}
 use Rattle.query_text.specs.declared.show.Show.TheVariants.{Named}
 use Rattle.query_text.proofs.Listed.{at_asked, ends_many, listed_all}
@@ -34,8 +36,8 @@ returns-in_err-show_parts-clause-cause g c =
     let w1 = faults c.show_parts.new.sink in
     let d0 = D.faults c.args.disk.now in
     let d1 = D.faults c.show_parts.new.disk in
-    cause_handed_on w0 w0 w1 d0 d0 d1 (blames 0 (length s.manifest.parts)) (blames 0 (length s.manifest.parts)) ℕ (Unit {0}) f c.from_residual.result (handed_on (Unit {0}) c.from_residual.result f c.from_residual.ensures.1) (omega arith) (omega arith) (λ file place kind b. b)
-    (at_asked (λ a w. HasAnswerCause {T = ℕ} w0 w1 d0 d1 (blames a w) (Err f)) 0 c.len-end.result 0 (length s.manifest.parts) refl all c.in_err-show_parts.ensures.cause)
+    cause_handed_on w0 w0 w1 d0 d0 d1 (blames 0 (length s.manifest.parts)) (blames 0 (length s.manifest.parts)) (Unit {0}) f c.from_residual.result (handed_on (Unit {0}) c.from_residual.result f c.from_residual.ensures.1) (omega arith) (omega arith) (λ file place kind b. b)
+    (at_asked (λ a w. HasReason {T = ℕ} why_not_printed (print_causes (Rose w0 w1) (Rose d0 d1) (blames a w)) (Err f)) 0 c.len-end.result 0 (length s.manifest.parts) refl all c.in_err-show_parts.ensures.cause)
 
 pub returns-clause-listed : goal.returns-clause-listed
 returns-clause-listed g c = λ t parts listed.

@@ -1,11 +1,13 @@
-use Rattle.std.proofs.Common.{◌≡◌, ◌++◌, ◌∷◌, [], ℕ, length, arith}
+use Rattle.std.proofs.Common.{◌≡◌, ◌++◌, ◌∷◌, [], length}
 use Rattle.std.specs.Prelude.{IsTrue}
 use Rattle.closing_machine.specs.Parts.{all_edges}
 use Rattle.store_law.specs.Listed.{part_file}
 use Rattle.open_store.specs.PartRead.{IsRefused}
 use Rattle.query_text.specs.Answered.{IsBlamed}
 use Rattle.query_text.proofs.Counts.{next_blamed, next_many, next_read, next_tallied, room_for}
-use Rattle.query_text.proofs.Showing.{cause_handed_on, handed_on}
+use Rattle.faults.proofs.Handed.{disk_more, holds_more}
+use Rattle.query_text.specs.Answered.{why_not_printed}
+use Rattle.query_text.proofs.Showing.{handed_on}
 use Rattle.query_text.proofs.label_counts.count_part.Goals as goal
 
 pub returns-in_err-part-clause-cause : goal.returns-in_err-part-clause-cause
@@ -16,10 +18,10 @@ returns-in_err-part-clause-cause g c =
     let i = c.args.i in
     let f = c.in_err-part.field-0.0 in
     let t = c.requires.tallied in
-    let d0 = D.faults c.args.disk.now in
-    cause_handed_on 0 0 0 d0 d0 (D.faults c.load.new.disk) (λ file place kind. (file ≡ part_file s.manifest i) × (IsTrue D.tells → IsRefused s i (seen file) place kind)) (IsBlamed s D.tells seen 0 (length s.manifest.parts)) ℕ (Unit {0}) f c.from_residual.result (handed_on (Unit {0}) c.from_residual.result f c.from_residual.ensures.1) (omega arith) (omega arith)
-    (λ file place kind b. next_blamed s D.tells seen i t.0 t.1 t.2 c.requires.i file place kind b.0 b.1)
-    c.in_err-part.ensures.cause
+    rw (handed_on (Unit {0}) c.from_residual.result f c.from_residual.ensures.1)
+    (holds_more _ _ (disk_more _ _ (λ file place kind. (file ≡ part_file s.manifest i) × (IsTrue D.tells → IsRefused s i (seen file) place kind)) (IsBlamed s D.tells seen 0 (length s.manifest.parts)) (λ h. h)
+    (λ file place kind b. next_blamed s D.tells seen i t.0 t.1 t.2 c.requires.i file place kind b.0 b.1)) (why_not_printed f)
+    c.in_err-part.ensures.cause)
 
 pub count_edges-requires : goal.count_edges-requires
 count_edges-requires g c =

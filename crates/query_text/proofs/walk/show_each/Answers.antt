@@ -38,7 +38,7 @@ returns-in_err-shown-clause-cause g c =
     let r = c.from_residual.result in
     let inv = c.loop-i.invariant in
     let s = c.args.store.now in
-    cause_handed_on (faults c.args.sink.now) (faults c.loop-i.sink) (faults c.show_part.new.sink) (D.faults c.args.disk.now) (D.faults c.loop-i.disk) (D.faults c.show_part.new.disk) (IsBlamed s D.tells (D.seen c.loop-i.disk) c.loop-i.i 1) (IsBlamed s D.tells (D.seen c.args.disk.now) c.args.first (c.args.end - c.args.first)) ℕ ℕ f r (handed_on ℕ r f c.from_residual.ensures.1) inv.writes inv.later
+    cause_handed_on (faults c.args.sink.now) (faults c.loop-i.sink) (faults c.show_part.new.sink) (D.faults c.args.disk.now) (D.faults c.loop-i.disk) (D.faults c.show_part.new.disk) (IsBlamed s D.tells (D.seen c.loop-i.disk) c.loop-i.i 1) (IsBlamed s D.tells (D.seen c.args.disk.now) c.args.first (c.args.end - c.args.first)) ℕ f r (handed_on ℕ r f c.from_residual.ensures.1) inv.writes inv.later
     (λ file place kind b. walk_blames s D.tells c.args.show.now (D.seen c.args.disk.now) (D.seen c.loop-i.disk) c.args.first c.loop-i.i c.args.end file place kind inv.gathered.0 inv.looks.same_seen inv.from c.loop-i-test.true inv.gathered.1.are_read inv.gathered.1.all b)
     c.in_err-shown.ensures.cause
 

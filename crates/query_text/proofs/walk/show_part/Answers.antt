@@ -14,7 +14,7 @@ pub returns-in_err-part-clause-cause : goal.returns-in_err-part-clause-cause
 returns-in_err-part-clause-cause g c =
     let D = g.D.Disk in
     let f = c.in_err-part.field-0.0 in
-    cause_of_load c.args.store.now D.tells (D.seen c.args.disk.now) c.args.i (g.O.Sink.faults c.args.sink.now) (D.faults c.args.disk.now) (D.faults c.load.new.disk) ℕ ℕ f c.from_residual.result c.requires (handed_on ℕ c.from_residual.result f c.from_residual.ensures.1) c.in_err-part.ensures.cause
+    cause_of_load c.args.store.now D.tells (D.seen c.args.disk.now) c.args.i (g.O.Sink.faults c.args.sink.now) (D.faults c.args.disk.now) (D.faults c.load.new.disk) ℕ f c.from_residual.result c.requires (handed_on ℕ c.from_residual.result f c.from_residual.ensures.1) c.in_err-part.ensures.cause
 
 pub returns-in_err-shown-clause-gathered : goal.returns-in_err-shown-clause-gathered
 returns-in_err-shown-clause-gathered g c =
