@@ -8,6 +8,7 @@ use Rattle.normal_law.specs.NormalForm.{normal_form}
 use Rattle.closing_machine.specs.State.{place}
 use Rattle.closing_machine.specs.Parts.{all_edges}
 use Rattle.disk_model.specs.Disk.{Contents}
+use Rattle.faults.specs.Reasons.{Causes}
 use Rattle.faults.specs.declared.form_kind.FormKind.{FormKind}
 use Rattle.partition_file.specs.Spelling.{Fits, Spells}
 use Rattle.dest_map.specs.Table.{counts_of}
@@ -24,12 +25,11 @@ use Rattle.open_store.specs.Opened.{IsBadStore}
 use Rattle.open_store.specs.Store.{IsHeld, OpenStore}
 use Rattle.query_text.specs.Text.{IsStateLine, answers_in, answers_text, dump_text, head_text}
 use Rattle.query_text.specs.Answered.{AreRead, IsBlamed, first_asked, wanted}
+use Rattle.graspan_top.specs.Faults.{Refuses}
 use Rattle.graspan_top.specs.Given.{Given}
 use Rattle.graspan_top.specs.Run.{IsEnd}
 use Rattle.graspan_top.specs.declared.status.Status.{Status}
-use Rattle.graspan_top.specs.declared.status.Status.TheVariants.{Done, Words, InputFault, OtherInput, ReadFault}
-use Rattle.graspan_top.specs.declared.status.Status.TheVariants.{DiskFault, WriteFault, NoMemory, BadStore, NoStore}
-use Rattle.graspan_top.specs.declared.status.Status.TheVariants.{Unfinished, NotKnown}
+use Rattle.graspan_top.specs.declared.status.Status.TheVariants.{Done}
 
 -- what is read of a store: partitions from one number on, and how many
 pub record Wants : Type 0 where
@@ -59,18 +59,27 @@ pub data LookBlames (c : Contents) (w : Wants) (Ready : Manifest → Type 0) : �
   loading : {file place : ℕ} {kind : FormKind} (s : OpenStore) → IsHeld s c → Ready s.manifest
       → IsBlamed s true c (w.first s) (w.number s) file place kind → LookBlames c w Ready file place kind
 
--- Why a command that only reads answers as it does, by what a read gives. Ready says of a manifest that the command
--- may print it, and Unknown that what is asked isn't there. The last two say that a count of faults rose.
+-- Why a command that only reads is refused, by what a read gives. Ready says of a manifest that the command may print
+-- it, and Unknown that what is asked isn't there. The last two say that a count of faults rose.
+abbrev pub look_causes : Given → Wants → (Manifest → Type 0) → (Manifest → ℕ → ℕ → Type 0) → (Manifest → Type 0) → Type 0 → Type 0 → Causes
+look_causes x w Ready Undone Unknown disk_rose out_rose =
+    record {
+      reads = ⊥;
+      disk = disk_rose;
+      writes = out_rose × (IsTrue x.tells → (m : Manifest) × HasCurrent x.before m × Ready m);
+      text = λ file line kind. ⊥;
+      other = λ file place. ⊥;
+      bad = λ file place kind. IsTrue x.tells → LookBlames x.before w Ready file place kind;
+      words = ⊥;
+      none = IsTrue x.tells → current_of x.before ≡ Ok Blank;
+      left = λ i j. IsTrue x.tells → (m : Manifest) × HasCurrent x.before m × Undone m i j;
+      unknown = IsTrue x.tells → (m : Manifest) × HasCurrent x.before m × Unknown m;
+    }
+
+-- why it answers as it does
 abbrev pub LookExplains : Given → Wants → (Manifest → Type 0) → (Manifest → ℕ → ℕ → Type 0) → (Manifest → Type 0) → Type 0 → Type 0 → Status → Type 0
 LookExplains x w Ready Undone Unknown disk_rose out_rose Done = IsTrue x.tells → (m : Manifest) × HasCurrent x.before m × Ready m
-LookExplains x w Ready Undone Unknown disk_rose out_rose NoStore = IsTrue x.tells → current_of x.before ≡ Ok Blank
-LookExplains x w Ready Undone Unknown disk_rose out_rose (Unfinished i j) = IsTrue x.tells → (m : Manifest) × HasCurrent x.before m × Undone m i j
-LookExplains x w Ready Undone Unknown disk_rose out_rose NotKnown = IsTrue x.tells → (m : Manifest) × HasCurrent x.before m × Unknown m
-LookExplains x w Ready Undone Unknown disk_rose out_rose DiskFault = disk_rose
-LookExplains x w Ready Undone Unknown disk_rose out_rose (BadStore file place kind) = IsTrue x.tells → LookBlames x.before w Ready file place kind
-LookExplains x w Ready Undone Unknown disk_rose out_rose WriteFault = out_rose × (IsTrue x.tells → (m : Manifest) × HasCurrent x.before m × Ready m)
-LookExplains x w Ready Undone Unknown disk_rose out_rose NoMemory = Unit {0}
-LookExplains x w Ready Undone Unknown disk_rose out_rose _ = ⊥
+LookExplains x w Ready Undone Unknown disk_rose out_rose status = Refuses (look_causes x w Ready Undone Unknown disk_rose out_rose) status
 
 -- ---- parts
 

@@ -3,7 +3,9 @@ use Rattle.std.specs.Prelude.{◌≡◌, ◌⊎◌, ℕ, true, IsTrue, List, [],
 use Rattle.graph_words.specs.declared.types.LabelId.{LabelId}
 use Rattle.graph_words.specs.declared.types.Born.{Born}
 use Rattle.graph_words.specs.declared.types.Rule.{Rule}
+use Rattle.faults.specs.Reasons.{Causes}
 use Rattle.faults.specs.declared.kinds.InputFile.{InputFile}
+use Rattle.faults.specs.declared.kinds.InputKind.{InputKind}
 use Rattle.faults.specs.declared.kinds.InputFile.TheVariants.{Grammar, Edges}
 use Rattle.edge_text.specs.EdgesText.{edges_fault}
 use Rattle.grammar_norm.specs.GrammarText.{grammar_fault, grammar_names}
@@ -28,11 +30,10 @@ use Rattle.store.specs.Import.{texts_of}
 use Rattle.closer.specs.Answers.{BlamesOnTheWay}
 use Rattle.query_text.specs.Text.{answers_text, head_text, tally_text}
 use Rattle.query_text.specs.Answered.{AreRead, IsBlamed}
+use Rattle.graspan_top.specs.Faults.{Refuses}
 use Rattle.graspan_top.specs.Given.{Given, WhereTold}
 use Rattle.graspan_top.specs.declared.status.Status.{Status}
-use Rattle.graspan_top.specs.declared.status.Status.TheVariants.{Done, Words, InputFault, OtherInput, ReadFault}
-use Rattle.graspan_top.specs.declared.status.Status.TheVariants.{DiskFault, WriteFault, NoMemory, BadStore, NoStore}
-use Rattle.graspan_top.specs.declared.status.Status.TheVariants.{Unfinished, NotKnown}
+use Rattle.graspan_top.specs.declared.status.Status.TheVariants.{Done}
 
 -- ---- what a run prints
 
@@ -145,31 +146,40 @@ pub record IsUnknown (c : Contents) (label : List ℕ) : Type 0 where
   pub done : IsDone manifest
   pub none : Contains manifest.labels label → ⊥
 
--- Why a run answers as it does. The last four say that a count of faults rose: for the edge file's name, for the
--- grammar's, of the disk, and of what is printed to. Done, InputFault, OtherInput, NotKnown and WriteFault say that
--- no refusal of the two files holds that comes before them; ReadFault of the edge file, DiskFault and BadStore say
--- it of the grammar file alone.
-abbrev pub RunExplains : Given → List ℕ → List ℕ → Option (List ℕ) → Contents → Type 0 → Type 0 → Type 0 → Type 0 → Status → Type 0
-RunExplains x edges grammar show after edges_rose grammar_rose disk_rose out_rose Done = Accepts x edges grammar
-RunExplains x edges grammar show after edges_rose grammar_rose disk_rose out_rose
-    (InputFault Grammar line kind) = WhereTold (x.told grammar)
+-- the first fault of a file: of the grammar, or of the edges, of which this is said where the disk held no store and
+-- the grammar is good
+abbrev pub HasFirstFault : Given → List ℕ → List ℕ → InputFile → ℕ → InputKind → Type 0
+HasFirstFault x edges grammar Grammar line kind = WhereTold (x.told grammar)
     (λ g. grammar_fault g ≡ Some (record { line = line; kind = kind }))
-RunExplains x edges grammar show after edges_rose grammar_rose disk_rose out_rose (InputFault Edges line kind) =
-    (IsTrue x.tells → current_of x.before ≡ Ok Blank)
+HasFirstFault x edges grammar Edges line kind = (IsTrue x.tells → current_of x.before ≡ Ok Blank)
     × WhereTold (x.told grammar) (λ g. IsGoodGrammar g
     × WhereTold (x.told edges) (λ e. edges_fault 0 (grammar_names g) e
     ≡ Some (record { line = line; kind = kind })))
-RunExplains x edges grammar show after edges_rose grammar_rose disk_rose out_rose
-    (OtherInput file place) = IsTrue x.tells → (slot : Slot) × (m : Manifest)
-    × (current_of x.before ≡ Ok (At slot m)) × DiffersIn x edges grammar m file place
-RunExplains x edges grammar show after edges_rose grammar_rose disk_rose out_rose ReadFault = grammar_rose
-    ⊎ (WhereTold (x.told grammar) IsGoodGrammar × edges_rose)
-RunExplains x edges grammar show after edges_rose grammar_rose disk_rose out_rose DiskFault = WhereTold (x.told grammar) IsGoodGrammar × disk_rose
-RunExplains x edges grammar show after edges_rose grammar_rose disk_rose out_rose
-    (BadStore file place kind) = WhereTold (x.told grammar) IsGoodGrammar
-    × (IsTrue x.tells → Blames x edges grammar after file place kind)
-RunExplains x edges grammar show after edges_rose grammar_rose disk_rose out_rose NotKnown = Accepts x edges grammar
-    × ((label : List ℕ) × (show ≡ Some label) × (IsTrue x.tells → IsUnknown after label))
-RunExplains x edges grammar show after edges_rose grammar_rose disk_rose out_rose WriteFault = Accepts x edges grammar × out_rose
-RunExplains x edges grammar show after edges_rose grammar_rose disk_rose out_rose NoMemory = Unit {0}
-RunExplains x edges grammar show after edges_rose grammar_rose disk_rose out_rose _ = ⊥
+HasFirstFault x edges grammar _ line kind = ⊥
+
+-- Why a run is refused. The last four say that a count of faults rose: for the edge file's name, for the grammar's, of
+-- the disk, and of what is printed to. A first fault, a difference, a failed write and an unknown label say that no
+-- refusal of the two files holds that comes before them; a failed read of the edge file, a failed disk and a broken
+-- file say it of the grammar file alone.
+abbrev pub run_causes : Given → List ℕ → List ℕ → Option (List ℕ) → Contents → Type 0 → Type 0 → Type 0 → Type 0 → Causes
+run_causes x edges grammar show after edges_rose grammar_rose disk_rose out_rose =
+    record {
+      reads = grammar_rose ⊎ (WhereTold (x.told grammar) IsGoodGrammar × edges_rose);
+      disk = WhereTold (x.told grammar) IsGoodGrammar × disk_rose;
+      writes = Accepts x edges grammar × out_rose;
+      text = HasFirstFault x edges grammar;
+      other = λ file place. IsTrue x.tells → (slot : Slot) × (m : Manifest)
+          × (current_of x.before ≡ Ok (At slot m)) × DiffersIn x edges grammar m file place;
+      bad = λ file place kind. WhereTold (x.told grammar) IsGoodGrammar
+          × (IsTrue x.tells → Blames x edges grammar after file place kind);
+      words = ⊥;
+      none = ⊥;
+      left = λ i j. ⊥;
+      unknown = Accepts x edges grammar × ((label : List ℕ) × (show ≡ Some label) × (IsTrue x.tells → IsUnknown after label));
+    }
+
+-- why a run answers as it does
+abbrev pub RunExplains : Given → List ℕ → List ℕ → Option (List ℕ) → Contents → Type 0 → Type 0 → Type 0 → Type 0 → Status → Type 0
+RunExplains x edges grammar show after edges_rose grammar_rose disk_rose out_rose Done = Accepts x edges grammar
+RunExplains x edges grammar show after edges_rose grammar_rose disk_rose out_rose status =
+    Refuses (run_causes x edges grammar show after edges_rose grammar_rose disk_rose out_rose) status

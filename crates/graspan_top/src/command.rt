@@ -1,7 +1,6 @@
 //! The command that words mean.
 ghost use Rattle.std.specs.Prelude.{◌≡◌, ◌≢◌, true, false, ◌⊎◌, ◌≤◌, ℕ, List, Option, Some, IsTrue, OnOk};
-ghost use Rattle.faults.specs.Counts.{Rose};
-ghost use Rattle.io_edge.specs.View.{NoCountFalls};
+ghost use Rattle.io_edge.specs.View.{NoCountFalls, WriteRose};
 ghost use Rattle.disk_model.specs.Disk.{Contents};
 ghost use Rattle.disk_model.specs.View.{OnlyLooks};
 ghost use Rattle.store_law.specs.Left.{IsLeft};
@@ -93,7 +92,7 @@ fn is_silent(status: Status) -> bool
 /// Prints the line of a fault, where it has one.
 fn end<O: Sink>(out: &mut O, ended: Result<(), Status>) -> Status
     ensures status { result ≡ the_status ended }
-    ensures ends { EndsAs (O.told out.old) (O.told out.new) (Rose (O.faults out.old) (O.faults out.new)) result }
+    ensures ends { EndsAs (O.told out.old) (O.told out.new) (WriteRose O.Sink out.old out.new) result }
     ensures writes { O.faults out.old ≤ O.faults out.new }
 {
     let status = status_of(ended);

@@ -1,8 +1,8 @@
 //! The commands that only read a store: `query`, `dump` and `parts`.
 ghost use Rattle.std.specs.Prelude.{◌≡◌, ◌≤◌, ◌<◌, ◌++◌, [], ℕ, List, Option, Some, IsTrue, IfErr, IfOk, OnOk, length};
+ghost use Rattle.graspan_top.specs.Faults.{Refuses};
 ghost use Rattle.faults.specs.Reasons.{HasReason};
 ghost use Rattle.io_edge.specs.View.{WriteRose};
-ghost use Rattle.faults.specs.Counts.{Rose};
 ghost use Rattle.io_edge.specs.Devices.{AppendsPrefix};
 ghost use Rattle.disk_model.specs.View.{DiskRose, OnlyLooks};
 ghost use Rattle.graph_words.specs.declared.types.Born.{Born as ABorn};
@@ -16,7 +16,7 @@ ghost use Rattle.graspan_top.specs.Looks.{AreVerticesOf, DumpExplains, IsDumpFro
 ghost use Rattle.graspan_top.specs.Looks.{IsQueryText, IsUnfinished, PartsExplains, QueryExplains};
 ghost use Rattle.graspan_top.specs.Looks.{count_line as the_count_line, none_undone};
 ghost use Rattle.graspan_top.specs.Printed.{Begins, IsNothingOr, PrintsFirst, status_of};
-ghost use Rattle.graspan_top.specs.Stages.{FindExplains};
+ghost use Rattle.graspan_top.specs.Stages.{find_causes};
 
 use crate::labels::number_of;
 use crate::status::Status;
@@ -36,7 +36,7 @@ fn found<D: Disk>(alloc: Global, disk: &mut D) -> Result<Store, Status>
     ensures held { IsTrue D.tells → IfOk result (λ s. IsHeld s (D.seen disk.old)) }
     ensures looks { OnlyLooks D.Disk disk.old disk.new }
     ensures later { D.faults disk.old ≤ D.faults disk.new }
-    ensures cause { IfErr result (FindExplains D.tells (D.seen disk.old) none_undone (Rose (D.faults disk.old) (D.faults disk.new))) }
+    ensures cause { IfErr result (Refuses (find_causes D.tells (D.seen disk.old) none_undone (DiskRose D.Disk disk.old disk.new))) }
 {
     match open(alloc, disk, OpenMode::Look)? {
         Opened::Blank => Err(Status::NoStore),
@@ -62,7 +62,7 @@ fn finished_store<D: Disk>(alloc: Global, disk: &mut D) -> Result<Store, Status>
     ensures done { IfOk result (λ s. IsDone s.manifest) }
     ensures looks { OnlyLooks D.Disk disk.old disk.new }
     ensures later { D.faults disk.old ≤ D.faults disk.new }
-    ensures cause { IfErr result (FindExplains D.tells (D.seen disk.old) IsUnfinished (Rose (D.faults disk.old) (D.faults disk.new))) }
+    ensures cause { IfErr result (Refuses (find_causes D.tells (D.seen disk.old) IsUnfinished (DiskRose D.Disk disk.old disk.new))) }
 {
     let store = found(alloc, disk)?;
     finished(store.manifest())?;
@@ -77,7 +77,7 @@ pub(crate) fn parts<D: Disk, O: Sink>(
 ) -> Result<(), Status>
     ensures explained { (told : List ℕ → Option (List ℕ))
         → PartsExplains (record { told = told; tells = D.tells; before = D.seen disk.old })
-        (Rose (D.faults disk.old) (D.faults disk.new)) (Rose (O.faults out.old) (O.faults out.new))
+        (DiskRose D.Disk disk.old disk.new) (WriteRose O.Sink out.old out.new)
         (status_of result) }
     ensures printed { PrintsFirst D.tells (IsPartsText (D.seen disk.old)) (O.told out.old) (O.told out.new) (status_of result) }
     ensures begun { Begins D.tells (IsNothingOr (IsPartsText (D.seen disk.old))) (O.told out.old) (O.told out.new) (status_of result) }
@@ -93,7 +93,7 @@ pub(crate) fn parts<D: Disk, O: Sink>(
 pub(crate) fn dump<D: Disk, O: Sink>(alloc: Global, disk: &mut D, out: &mut O) -> Result<(), Status>
     ensures explained { (told : List ℕ → Option (List ℕ))
         → DumpExplains (record { told = told; tells = D.tells; before = D.seen disk.old })
-        (Rose (D.faults disk.old) (D.faults disk.new)) (Rose (O.faults out.old) (O.faults out.new))
+        (DiskRose D.Disk disk.old disk.new) (WriteRose O.Sink out.old out.new)
         (status_of result) }
     ensures printed { PrintsFirst D.tells (IsDumpText (D.seen disk.old)) (O.told out.old) (O.told out.new) (status_of result) }
     ensures begun { Begins D.tells (IsNothingOr (IsDumpFront (D.seen disk.old))) (O.told out.old) (O.told out.new) (status_of result) }
@@ -171,7 +171,7 @@ pub(crate) fn query<D: Disk, O: Sink>(
 ) -> Result<(), Status>
     ensures explained { (told : List ℕ → Option (List ℕ))
         → QueryExplains (record { told = told; tells = D.tells; before = D.seen disk.old }) label.now ends.from
-        ends.to (Rose (D.faults disk.old) (D.faults disk.new)) (Rose (O.faults out.old) (O.faults out.new))
+        ends.to (DiskRose D.Disk disk.old disk.new) (WriteRose O.Sink out.old out.new)
         (status_of result) }
     ensures printed { PrintsFirst D.tells (IsQueryText (D.seen disk.old) label.now ends.from ends.to)
         (O.told out.old) (O.told out.new) (status_of result) }

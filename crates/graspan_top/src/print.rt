@@ -1,7 +1,7 @@
 //! The lines of faults.
 ghost use Rattle.std.specs.Prelude.{◌≡◌, ◌≤◌, ◌+◌, ◌++◌, length};
+ghost use Rattle.io_edge.specs.View.{WriteRose};
 ghost use Rattle.arrayvec.specs.ArrayVec.{array_vec_len};
-ghost use Rattle.faults.specs.Counts.{Rose};
 ghost use Rattle.graspan_top.specs.declared.status.Status.TheVariants.{BadStore, InputFault, OtherInput, Unfinished};
 ghost use Rattle.graspan_top.specs.Printed.{TakesLine, fault_line};
 ghost use Rattle.graspan_top.specs.Names.{file_name as file_name_of, form_name as form_name_of, kind_name as kind_name_of};
@@ -190,7 +190,7 @@ fn line_of(status: Status) -> Line
 
 /// Prints the line of a fault. Where it can't be written the status stays, so the failure is told by the sink's count alone.
 pub(crate) fn print_fault<O: Sink>(out: &mut O, status: Status)
-    ensures line { TakesLine (O.told out.old) (O.told out.new) (Rose (O.faults out.old) (O.faults out.new)) (fault_line status) }
+    ensures line { TakesLine (O.told out.old) (O.told out.new) (WriteRose O.Sink out.old out.new) (fault_line status) }
     ensures later { O.faults out.old ≤ O.faults out.new }
 {
     let _ = out.write(line_of(status).as_slice());

@@ -1,10 +1,10 @@
 //! The command `run`: imports or resumes, closes and prints.
 ghost use Rattle.std.specs.Prelude.{◌≡◌, ◌≢◌, ◌≤◌, ◌++◌, ℕ, List, Option, Some, IsTrue, IfErr, IfOk, OnOk, OnErr, length, option_map};
+ghost use Rattle.graspan_top.specs.Faults.{Refuses};
 ghost use Rattle.faults.specs.Reasons.{HasReason};
 ghost use Rattle.graph_words.specs.declared.types.Born.{Born as ABorn};
-ghost use Rattle.faults.specs.Counts.{Rose};
 ghost use Rattle.io_edge.specs.Devices.{AppendsPrefix, Takes};
-ghost use Rattle.io_edge.specs.View.{NoCountFalls, WriteRose};
+ghost use Rattle.io_edge.specs.View.{NoCountFalls, ReadRose, WriteRose};
 ghost use Rattle.closing_machine.specs.Parts.{all_edges};
 ghost use Rattle.disk_model.specs.Disk.{Contents};
 ghost use Rattle.disk_model.specs.View.{DiskRose, OnlyLooks};
@@ -19,7 +19,7 @@ ghost use Rattle.graspan_top.specs.Given.{Given as AGiven};
 ghost use Rattle.graspan_top.specs.Printed.{Begins, IsNothingOr, PrintsFirst, status_of};
 ghost use Rattle.graspan_top.specs.Run.{IsRunBegun, IsRunText, RunExplains, done_line};
 ghost use Rattle.graspan_top.specs.Call.{MayBeStopped};
-ghost use Rattle.graspan_top.specs.Stages.{IsReady, IsShowBegun, ShowExplains, shown_text};
+ghost use Rattle.graspan_top.specs.Stages.{IsReady, IsShowBegun, show_causes, shown_text};
 
 use crate::labels::shown_number;
 use crate::ready_store::{Files, ready_store};
@@ -95,9 +95,8 @@ fn show_run<D: Disk, O: Sink>(
 ) -> Result<(), Status>
     requires held { IsTrue D.tells → IsHeld store.now (D.seen disk.old) }
     requires done { IsDone store.now.manifest }
-    ensures explained { ShowExplains store.now D.tells (D.seen disk.old) (option_map (λ l. l.now) show.entry)
-        (Rose (D.faults disk.old) (D.faults disk.new)) (Rose (O.faults out.old) (O.faults out.new))
-        (status_of result) }
+    ensures explained { IfErr result (Refuses (show_causes store.now D.tells (D.seen disk.old) (option_map (λ l. l.now) show.entry)
+        (DiskRose D.Disk disk.old disk.new) (WriteRose O.Sink out.old out.new))) }
     ensures printed { PrintsFirst D.tells (IsRunText (D.seen disk.old) (option_map (λ l. l.now) show.entry))
         (O.told out.old) (O.told out.new) (status_of result) }
     ensures begun { Begins D.tells (IsNothingOr (IsRunBegun (D.seen disk.old) (option_map (λ l. l.now) show.entry)))
@@ -125,9 +124,9 @@ fn closed_store<I: Inputs, D: Disk>(
     ensures cause { IfErr result (λ fault. (show : Option (List ℕ)) (after : Contents)
         → RunExplains (record { told = I.told inputs.old; tells = D.tells; before = D.seen disk.old })
         files.now.edges.now files.now.grammar.now show after
-        (Rose (I.faults inputs.old files.now.edges.now) (I.faults inputs.new files.now.edges.now))
-        (Rose (I.faults inputs.old files.now.grammar.now) (I.faults inputs.new files.now.grammar.now))
-        (Rose (D.faults disk.old) (D.faults disk.new)) ⊥ fault) }
+        (ReadRose I.Inputs inputs.old inputs.new files.now.edges.now)
+        (ReadRose I.Inputs inputs.old inputs.new files.now.grammar.now)
+        (DiskRose D.Disk disk.old disk.new) ⊥ fault) }
     ensures fails { IfErr result (λ fault. fault ≢ Done) }
     ensures stops { MayBeStopped D.Disk (I.told inputs.old) files.now.edges.now files.now.grammar.now disk.old disk.new }
     ensures kept { I.told inputs.new ≡ I.told inputs.old }
@@ -150,9 +149,9 @@ pub(crate) fn run<I: Inputs, D: Disk, O: Sink>(
 ) -> Result<(), Status>
     ensures explained { RunExplains (record { told = I.told inputs.old; tells = D.tells; before = D.seen disk.old })
         files.now.edges.now files.now.grammar.now (option_map (λ l. l.now) show.entry) (D.seen disk.new)
-        (Rose (I.faults inputs.old files.now.edges.now) (I.faults inputs.new files.now.edges.now))
-        (Rose (I.faults inputs.old files.now.grammar.now) (I.faults inputs.new files.now.grammar.now))
-        (Rose (D.faults disk.old) (D.faults disk.new)) (Rose (O.faults out.old) (O.faults out.new))
+        (ReadRose I.Inputs inputs.old inputs.new files.now.edges.now)
+        (ReadRose I.Inputs inputs.old inputs.new files.now.grammar.now)
+        (DiskRose D.Disk disk.old disk.new) (WriteRose O.Sink out.old out.new)
         (status_of result) }
     ensures printed { PrintsFirst D.tells (IsRunText (D.seen disk.new) (option_map (λ l. l.now) show.entry))
         (O.told out.old) (O.told out.new) (status_of result) }

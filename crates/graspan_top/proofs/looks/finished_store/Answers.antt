@@ -2,7 +2,8 @@ use Rattle.std.proofs.Common.{◌≡◌, ◌∙◌, ap, sym, subst}
 use Rattle.std.proofs.lemmas.Result.{err_from_is_err_and}
 use Rattle.faults.specs.Counts.{Rose}
 use Rattle.graspan_top.specs.Looks.{IsUnfinished}
-use Rattle.graspan_top.specs.Stages.{FindExplains}
+use Rattle.graspan_top.specs.Faults.{Refuses}
+use Rattle.graspan_top.specs.Stages.{find_causes}
 use Rattle.graspan_top.specs.declared.status.Status.{Status}
 use Rattle.graspan_top.proofs.LookLemmas.{unfinished_found}
 use Rattle.graspan_top.proofs.looks.finished_store.Goals as goal
@@ -14,5 +15,5 @@ returns-in_err-finished-clause-cause g c =
     let rose : Type 0 = Rose (D.faults c.args.disk.now) (D.faults c.found.new.disk) in
     let p = err_from_is_err_and c.from_residual-in_err-finished.result c.from_residual-in_err-finished.ensures.1 in
     rw p.1
-    (subst (λ (s : Status). FindExplains D.tells seen IsUnfinished rose s) (sym p.2)
+    (subst (λ (s : Status). Refuses (find_causes D.tells seen IsUnfinished rose) s) (sym p.2)
     (unfinished_found D.tells seen rose c.in_ok-store.store c.manifest.result.now c.in_err-finished.field-0.0 c.manifest.ensures.manifest c.in_ok-store.ensures.held c.in_err-finished.ensures.undone))

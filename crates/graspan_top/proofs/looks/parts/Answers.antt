@@ -19,7 +19,7 @@ returns-in_err-parts-clause-explained g c = λ told.
     let O = g.O.Sink in
     let x : Given = record { told = told; tells = D.tells; before = D.seen c.args.disk.now } in
     let s = c.in_ok-store.store in
-    writing_refused x wants_none IsAny none_undone none_unknown s c.in_ok-store.ensures.held tt (Unit {0}) (O.faults c.args.out.now) (O.faults c.parts.new.sink) (Rose (D.faults c.args.disk.now) (D.faults c.found.new.disk)) c.in_err-parts.field-0.0 c.from_residual-in_err-parts.result c.from_residual-in_err-parts.ensures.1 c.in_err-parts.ensures.cause
+    writing_refused x wants_none IsAny none_undone none_unknown s c.in_ok-store.ensures.held tt (Rose (D.faults c.args.disk.now) (D.faults c.found.new.disk)) (Rose (O.faults c.args.out.now) (O.faults c.parts.new.sink)) c.in_err-parts.field-0.0 c.from_residual-in_err-parts.result c.from_residual-in_err-parts.ensures.1 c.in_err-parts.ensures.cause
 
 pub returns-in_err-parts-clause-printed : goal.returns-in_err-parts-clause-printed
 returns-in_err-parts-clause-printed g c =

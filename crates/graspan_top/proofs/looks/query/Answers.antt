@@ -38,7 +38,7 @@ returns-in_err-print_query-clause-explained g c = λ told.
     let number_is = subst (λ (m : Manifest). slice_get m.labels c.in_ok-number.number.0 ≡ Some a.label.now) c.manifest.ensures.manifest c.in_ok-number.ensures.number in
     let vertices = subst (λ (m : Manifest). AreVerticesOf m a.ends.from a.ends.to) c.manifest-2.ensures.manifest c.in_ok-known.ensures.known in
     let known : IsKnownIn a.label.now a.ends.from a.ends.to c.in_ok-store.store.manifest = record { done = found.done; has_label = has_label c.in_ok-store.store.manifest.labels a.label.now c.in_ok-number.number.0 number_is; vertices = vertices } in
-    printing_refused x (wants_one a.ends.from) (IsKnownIn a.label.now a.ends.from a.ends.to) IsUnfinished (IsUnknownIn a.label.now a.ends.from a.ends.to) c.in_ok-store.store found.held known (Unit {0}) (O.faults a.out.now) (O.faults c.print_query.new.out) (D.faults a.disk.now) (D.faults c.finished_store.new.disk) (D.faults c.print_query.new.disk) (D.seen c.finished_store.new.disk) c.in_err-print_query.field-0.0 c.from_residual-in_err-print_query.result c.from_residual-in_err-print_query.ensures.1 found.later found.looks.same_seen c.in_err-print_query.ensures.cause
+    printing_refused x (wants_one a.ends.from) (IsKnownIn a.label.now a.ends.from a.ends.to) IsUnfinished (IsUnknownIn a.label.now a.ends.from a.ends.to) c.in_ok-store.store found.held known (O.faults a.out.now) (O.faults c.print_query.new.out) (D.faults a.disk.now) (D.faults c.finished_store.new.disk) (D.faults c.print_query.new.disk) (D.seen c.finished_store.new.disk) c.in_err-print_query.field-0.0 c.from_residual-in_err-print_query.result c.from_residual-in_err-print_query.ensures.1 found.later found.looks.same_seen c.in_err-print_query.ensures.cause
 
 pub returns-in_err-print_query-clause-printed : goal.returns-in_err-print_query-clause-printed
 returns-in_err-print_query-clause-printed g c =

@@ -1,14 +1,10 @@
 use Rattle.std.proofs.Common.{◌≡◌, ℕ, ◌≤◌, List, refl, sym, ap, subst, ◌∙◌, arith}
 use Rattle.std.specs.Prelude.{IsTrue, IfErr}
-use Rattle.faults.specs.Reasons.{HasReason, disk_causes}
-use Rattle.store_fault.specs.Faults.{why_of}
 use Rattle.faults.specs.Counts.{Rose}
 use Rattle.disk_model.specs.Disk.{Contents}
 use Rattle.manifest_switch.specs.declared.slot.Found.TheVariants.{Blank}
 use Rattle.open_store.specs.Opened.{IsBadStore, IsOpened, IsOpenedAlone}
-use Rattle.store.specs.Import.{HasImportCause}
 use Rattle.graspan_top.specs.Given.{Given}
-use Rattle.graspan_top.specs.Stages.{CompareExplains}
 use Rattle.open_store.specs.declared.opened.Opened.{Opened as OpenedT}
 use Rattle.graspan_top.proofs.ExplainLemmas.{compare_handed, if_err, open_explains, rose_later}
 use Rattle.graspan_top.proofs.ReadyLemmas.{found_current, found_ready, import_ready_ok}
@@ -20,7 +16,7 @@ returns-in_err-open-clause-cause g c =
     let D = g.D.Disk in
     let x : Given = record { told = g.I.Inputs.told c.args.inputs.now; tells = D.tells; before = D.seen c.args.disk.now } in
     if_err c.from_residual.result c.in_err-open.field-0.0 _ c.from_residual.ensures.1
-    (λ show after. open_explains x c.args.files.now.edges.now c.args.files.now.grammar.now c.args.grammar.now c.requires OpenedT show after _ _ ⊥ (D.faults c.args.disk.now) (D.faults c.open.new.disk) _ (λ f p k bad. bad) c.in_err-open.field-0.0 (subst (HasReason why_of (disk_causes (Rose (D.faults c.args.disk.now) (D.faults c.open.new.disk)) (λ file place kind. IsTrue D.tells → IsBadStore (D.seen c.args.disk.now) file place kind))) c.in_err-open.was c.open.ensures.cause))
+    (λ show after. open_explains x c.args.files.now.edges.now c.args.files.now.grammar.now c.args.grammar.now c.requires show after _ _ (Rose (D.faults c.args.disk.now) (D.faults c.open.new.disk)) ⊥ _ (λ f p k bad. bad) c.in_err-open.field-0.0 c.in_err-open.ensures.cause)
 
 pub returns-in_err-compare-in-Found-clause-cause : goal.returns-in_err-compare-in-Found-clause-cause
 returns-in_err-compare-in-Found-clause-cause g c =
@@ -36,7 +32,7 @@ returns-in_err-compare-in-Found-clause-cause g c =
     compare_handed x c.args.files.now.edges.now c.args.files.now.grammar.now c.args.grammar.now c.requires (D.seen c.open.new.disk) c.in-Found.store.slot c.in-Found.store.manifest current c.in_ok-open.ensures.stays show after er gr
     (Rose (D.faults c.open.new.disk) (D.faults c.compare.new.disk)) (Rose (D.faults c.args.disk.now) (D.faults c.compare.new.disk)) ⊥
     (rose_later (D.faults c.args.disk.now) (D.faults c.open.new.disk) (D.faults c.compare.new.disk) (D.faults c.compare.new.disk) c.open.ensures.later (omega arith))
-    c.compare.result c.in_err-compare-in-Found.field-0.0 c.in_err-compare-in-Found.was c.compare.ensures.cause)
+    c.in_err-compare-in-Found.field-0.0 c.in_err-compare-in-Found.ensures.cause)
 
 pub returns-in-Blank-clause-ready : goal.returns-in-Blank-clause-ready
 returns-in-Blank-clause-ready g c =

@@ -1,7 +1,5 @@
 use Rattle.std.proofs.Common.{ℕ, ◌≤◌, List, arith}
-use Rattle.std.specs.Prelude.{Result}
 use Rattle.faults.specs.Counts.{Rose}
-use Rattle.open_store.specs.Store.{OpenStore}
 use Rattle.graspan_top.specs.Faults.{of_store}
 use Rattle.graspan_top.specs.Given.{Given}
 use Rattle.graspan_top.proofs.ExplainLemmas.{close_handed, if_err, not_done, rose_later}
@@ -20,11 +18,11 @@ returns-in_err-run_to_end-clause-cause g c =
     let last = c.run_to_end.new.disk in
     if_err c.from_residual-in_err-run_to_end.result (of_store c.in_err-run_to_end.field-0.0) _ c.from_residual-in_err-run_to_end.ensures.1
     (λ show after.
-    close_handed x edges grammar OpenStore c.in_ok-store.ensures.ready.accepts show after
+    close_handed x edges grammar c.in_ok-store.ensures.ready.accepts show after
     (Rose (I.faults c.args.inputs.now edges) (I.faults c.ready_store.new.inputs edges)) (Rose (I.faults c.args.inputs.now grammar) (I.faults c.ready_store.new.inputs grammar))
-    (Rose (D.faults c.args.disk.now) (D.faults last)) ⊥ (D.faults mid) (D.faults last) (D.seen mid) c.in_ok-store.store c.in_ok-store.ensures.begins c.in_ok-store.ensures.ready.opened
+    (Rose (D.faults mid) (D.faults last)) (Rose (D.faults c.args.disk.now) (D.faults last)) ⊥ (D.seen mid) c.in_ok-store.store c.in_ok-store.ensures.begins c.in_ok-store.ensures.ready.opened
     (rose_later (D.faults c.args.disk.now) (D.faults mid) (D.faults last) (D.faults last) c.ready_store.ensures.later (omega arith))
-    c.run_to_end.result c.in_err-run_to_end.field-0.0 c.in_err-run_to_end.was c.run_to_end.ensures.cause)
+    c.in_err-run_to_end.field-0.0 c.in_err-run_to_end.ensures.cause)
 
 pub returns-clause-ready : goal.returns-clause-ready
 returns-clause-ready g c =

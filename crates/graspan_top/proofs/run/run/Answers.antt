@@ -58,7 +58,7 @@ returns-clause-explained g c =
     subst (λ (k : Contents). RunExplains x edges grammar show k er gr dr' wr (status_of c.show_run.result)) (sym c.show_run.ensures.looks.same_seen)
     (explains_later x edges grammar show (D.seen mid) er gr dr wr er gr dr' wr (λ h. h) (λ h. h)
     (rose_later (D.faults c.args.disk.now) (D.faults mid) (D.faults last) (D.faults last) c.closed_store.ensures.later (omega arith)) (λ h. h) (status_of c.show_run.result)
-    (show_explains x edges grammar show (D.seen mid) er gr dr wr c.in_ok-store.store ready.accepts c.in_ok-store.ensures.done ready.opened (λ tells. (ready.opened tells).held.current) (status_of c.show_run.result) c.show_run.ensures.explained))
+    (show_explains x edges grammar show (D.seen mid) er gr dr wr c.in_ok-store.store ready.accepts c.in_ok-store.ensures.done ready.opened (λ tells. (ready.opened tells).held.current) c.show_run.result c.show_run.ensures.explained))
 
 pub returns-clause-exact : goal.returns-clause-exact
 returns-clause-exact g c =
