@@ -14,7 +14,7 @@ use graph_words::Born;
 use manifest_codec::Manifest;
 use open_store::{Store, StoreFault, Tally};
 use partition_file::Partition;
-use std::alloc::{AllocError, Global};
+use std::alloc::Global;
 
 // Whether some edge was born at or after a round.
 fn has_new(edges: &[Born], round: u64) -> bool
@@ -30,13 +30,7 @@ fn has_new(edges: &[Born], round: u64) -> bool
 }
 
 // The manifest in which partition `i` is in another file, with other counts and another newest birth.
-fn with_part(
-    alloc: Global,
-    mut next: Manifest,
-    i: usize,
-    file: u32,
-    tally: Tally,
-) -> Result<Manifest, AllocError>
+fn with_part(mut next: Manifest, i: usize, file: u32, tally: Tally) -> Manifest
     requires well { IsWell next }
     requires there { i < length next.parts }
     requires row { length tally.row.items ≡ length next.parts }
@@ -44,13 +38,13 @@ fn with_part(
     requires free { 4 ≤ file }
     requires within { file < 1024 }
     requires untaken { All (λ p. p.file ≢ file) next.parts }
-    ensures { IfOk result (Replaces next i file tally.row.items tally.newest) }
+    ensures { Replaces next i file tally.row.items tally.newest result }
 {
-    next.parts = with_file(alloc, &next.parts, i, file)?;
-    next.map = with_row(alloc, &next.map, i, &tally.row)?;
+    next.parts = with_file(next.parts, i, file);
+    next.map = with_row(next.map, i, &tally.row);
     next.marks.raise(i, tally.newest);
     let _size = next.marks.len();
-    Ok(next)
+    next
 }
 
 /// Puts partition `i` into a free file where it has an edge that was born at or after the store's
@@ -76,8 +70,7 @@ pub(crate) fn put_changed<D: Disk>(
     let tally = store.tally(alloc, part.edges())?;
     let file = file_for(alloc, store, &next)?;
     store.put_part(alloc, disk, file, part)?;
-    let after = with_part(alloc, next, i, file, tally)?;
-    Ok(after)
+    Ok(with_part(next, i, file, tally))
 }
 
 /// Puts what changed of a pair, the low partition first.
@@ -86,20 +79,19 @@ pub(crate) fn put_pair<D: Disk>(
     disk: &mut D,
     store: &Store,
     next: Manifest,
-    low: usize,
-    high: usize,
+    pair: (usize, usize),
     ran: &Ran,
 ) -> Result<Manifest, StoreFault>
-    requires may { MayPutPair store.now D.tells (D.seen disk.old) low high ran.now.low ran.now.high next }
-    ensures put { IfOk result (λ after. ArePut store.now.manifest D.tells low high ran.now.low ran.now.high next
+    requires may { MayPutPair store.now D.tells (D.seen disk.old) pair.0 pair.1 ran.now.low ran.now.high next }
+    ensures put { IfOk result (λ after. ArePut store.now.manifest D.tells pair.0 pair.1 ran.now.low ran.now.high next
         (D.seen disk.old) after (D.seen disk.new)) }
     ensures any_moment { LeavesBy D.Disk disk.old disk.new (Spares store.now.manifest) }
     ensures later { D.faults disk.old ≤ D.faults disk.new }
     ensures cause { HasReason why_of (on_disk D.Disk disk.old disk.new blames_none) result }
 {
-    let next = put_changed(alloc, disk, store, next, low, &ran.low)?;
+    let next = put_changed(alloc, disk, store, next, pair.0, &ran.low)?;
     match &ran.high {
         None => Ok(next),
-        Some(part) => put_changed(alloc, disk, store, next, high, part),
+        Some(part) => put_changed(alloc, disk, store, next, pair.1, part),
     }
 }

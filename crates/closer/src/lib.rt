@@ -1,11 +1,11 @@
 //! The closing of a store, step by step: a pair of partitions with work left is picked, loaded, run and put.
 #![tactic(auto)]
 
+mod changed_parts;
 mod laws;
 mod next_manifest;
-mod pair;
-mod changed_parts;
 mod one_step;
+mod pair;
 mod to_end;
 
 pub use laws::{

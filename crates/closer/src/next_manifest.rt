@@ -55,55 +55,34 @@ pub(crate) fn marked(store: &Store, i: usize, j: usize, rounds: u64) -> Result<M
     Ok(next)
 }
 
-// A list of these partitions.
-fn list_of(alloc: Global, parts: &[PartEntry]) -> Result<PartList, AllocError>
-    ensures { IfOk result (λ list. list ≡ parts.now) }
+/// The partitions, of which number `i` has another file. It takes no memory.
+pub(crate) fn with_file(parts: PartList, i: usize, file: u32) -> PartList
+    requires { i < length parts }
+    ensures { Refiles i file parts result }
 {
-    let mut list = PartList::new(alloc);
-    for part in parts {
-        list.push(*part)?;
-    }
-    Ok(list)
-}
-
-/// The partitions, of which number `i` has another file.
-pub(crate) fn with_file(
-    alloc: Global,
-    parts: &PartList,
-    i: usize,
-    file: u32,
-) -> Result<PartList, AllocError>
-    requires { i < length parts.now }
-    ensures { IfOk result (Refiles i file parts.now) }
-{
-    let mut entries = parts.as_slice().to_vec(alloc)?;
+    let mut entries = parts.into_vec();
     entries[i] = PartEntry {
         hi: entries[i].hi,
         file,
     };
-    list_of(alloc, &entries)
+    PartList::of(entries)
 }
 
-/// The map, in which row `i` is another one.
-pub(crate) fn with_row(
-    alloc: Global,
-    map: &DestMap,
-    i: usize,
-    row: &[u64],
-) -> Result<DestMap, AllocError>
-    requires i { i < map.now.0 }
-    requires row { length row.now ≡ map.now.0 }
-    ensures size { IfOk result (λ m. m.0 ≡ map.now.0) }
-    ensures rows { IfOk result (λ m. length m.1 ≡ map.now.0 * map.now.0) }
-    ensures here { IfOk result (λ m. (b : ℕ) → b < map.now.0 → counts_of m i b ≡ slice_index_or row.now b 0) }
-    ensures others { IfOk result (λ m. (x b : ℕ) → x ≢ i → counts_of m x b ≡ counts_of map.now x b) }
+/// The map, in which row `i` is another one. It takes no memory.
+pub(crate) fn with_row(map: DestMap, i: usize, row: &[u64]) -> DestMap
+    requires i { i < map.0 }
+    requires row { length row.now ≡ map.0 }
+    ensures size { result.0 ≡ map.0 }
+    ensures rows { length result.1 ≡ map.0 * map.0 }
+    ensures here { (b : ℕ) → b < map.0 → counts_of result i b ≡ slice_index_or row.now b 0 }
+    ensures others { (x b : ℕ) → x ≢ i → counts_of result x b ≡ counts_of map x b }
 {
     let size = map.len();
-    let mut counts = map.counts().to_vec(alloc)?;
+    let mut counts = map.into_counts();
     for (j, count) in row.iter().enumerate() {
         counts[i * size + j] = *count;
     }
-    Ok(DestMap::of_counts(size, counts))
+    DestMap::of_counts(size, counts)
 }
 
 /// A file for a partition: neither the store's manifest nor the one that is made names it.

@@ -10,9 +10,9 @@ ghost use Rattle.store_law.specs.Left.{IsDone};
 ghost use Rattle.closer.specs.Answers.{BlamesPicked, IfAgain, IfFinished, IsStepped, Moves};
 ghost use Rattle.closer.specs.NextManifest.{BlamesPair, IsNext, IsOrderedPair, Spares};
 
+use crate::changed_parts::put_pair;
 use crate::next_manifest::marked;
 use crate::pair::{least_mark, load_pair, run_loaded};
-use crate::changed_parts::put_pair;
 use closing_options::RunOptions;
 use disk_model::Disk;
 use manifest_codec::Manifest;
@@ -57,7 +57,7 @@ fn close_pair<D: Disk>(
     let since = least_mark(store.manifest(), i, j);
     let ran = run_loaded(alloc, store, first, second, since)?;
     let next = marked(store, i, j, ran.rounds)?;
-    put_pair(alloc, disk, store, next, low, high, &ran)
+    put_pair(alloc, disk, store, next, (low, high), &ran)
 }
 
 /// One step of closing: the pair of partitions that is picked is joined, until a round adds nothing.

@@ -3,13 +3,13 @@
 
 mod clap_numbers;
 mod command;
+mod command_line;
 mod cut_words;
 mod fault;
 mod kind;
-mod command_line;
 mod run_numbers;
 mod run_options;
 
 pub use command::Command;
-pub use fault::WordsFault;
 pub use command_line::{one_reading, read_command};
+pub use fault::WordsFault;

@@ -48,6 +48,13 @@ impl DestMap {
         DestMap { size, counts }
     }
 
+    /// The counts of a map, row after row, to be changed. It takes no memory.
+    pub fn into_counts(self) -> Vec<u64>
+        ensures { result.items ≡ self.1 }
+    {
+        self.counts
+    }
+
     /// The counts, row after row.
     pub fn counts(&self) -> &[u64]
         ensures { result.now ≡ self.now.1 }

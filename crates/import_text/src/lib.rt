@@ -5,11 +5,11 @@ mod copy;
 mod degrees;
 mod gathered;
 mod given;
+mod given_part;
 mod laws;
 mod part;
-mod given_part;
 mod tally;
 
 pub use copy::{Copied, copy_edges};
-pub use laws::copies_are_good;
 pub use given_part::given_edges;
+pub use laws::copies_are_good;

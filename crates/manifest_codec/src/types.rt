@@ -44,6 +44,20 @@ impl PartList {
         }
     }
 
+    /// The list of these partitions. It takes no memory.
+    pub fn of(parts: Vec<PartEntry>) -> Self
+        ensures { result ≡ parts.items }
+    {
+        PartList { parts }
+    }
+
+    /// The partitions of a list, to be changed. It takes no memory.
+    pub fn into_vec(self) -> Vec<PartEntry>
+        ensures { result.items ≡ self }
+    {
+        self.parts
+    }
+
     /// Adds a partition at the end.
     pub fn push(&mut self, item: PartEntry) -> Result<(), AllocError>
         ensures ok { OnOk result (self.new ≡ self.old ++ item ∷ []) }

@@ -8,8 +8,8 @@ ghost use Rattle.manifest_switch.specs.declared.slot.Found.TheVariants.{At};
 ghost use Rattle.manifest_switch.specs.Slots.{file_of, other, is_open, current_of, HasOnly};
 ghost use Rattle.manifest_switch.specs.Steps.{Keeps};
 
-use crate::gates::close_gate;
 use crate::current_slot::open_len;
+use crate::gates::close_gate;
 use crate::slot::Slot;
 use disk_model::{Disk, Failed};
 

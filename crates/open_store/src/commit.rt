@@ -12,13 +12,13 @@ ghost use Rattle.store_law.specs.Listed.{ends_of};
 ghost use Rattle.store_fault.specs.declared.fault.StoreFault.TheVariants.{NoMemory};
 ghost use Rattle.open_store.specs.Store.{IsHeldAlone};
 
-use store_fault::StoreFault;
 use crate::store::Store;
 use disk_model::Disk;
 use intervals::Intervals;
 use manifest_codec::Manifest;
 use manifest_switch::switch;
 use std::alloc::{AllocError, Global};
+use store_fault::StoreFault;
 
 // The intervals of a manifest's partitions.
 pub(crate) fn intervals_of(alloc: Global, manifest: &Manifest) -> Result<Intervals, AllocError>

@@ -11,12 +11,12 @@ ghost use Rattle.faults.specs.Reasons.{HasReason};
 ghost use Rattle.store_fault.specs.Faults.{why_of};
 ghost use Rattle.open_store.specs.Answers.{DiffersFirst, compare_causes, copy_file, copy_len, copy_of};
 
-use store_fault::StoreFault;
 use crate::store::Store;
 use crate::stream::{PIECE_LEN, read_front};
 use disk_model::{Disk, Failed};
 use io_edge::{InputFile, Inputs};
 use std::alloc::Global;
+use store_fault::StoreFault;
 
 // How many bytes in front are the same in two pieces.
 fn same_front(text: &[u8], copy: &[u8]) -> usize

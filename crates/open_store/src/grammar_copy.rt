@@ -11,13 +11,13 @@ ghost use Rattle.disk_model.specs.View.{OnlyLooks, on_disk};
 ghost use Rattle.store_fault.specs.declared.fault.StoreFault.TheVariants.{BadStore};
 ghost use Rattle.open_store.specs.Copy.{IsBadCopy, IsCopyRead};
 
-use store_fault::StoreFault;
 use disk_model::{Disk, FormKind};
 use grammar_norm::{Grammar, GrammarFault, LabelTable, read_grammar};
 use label_table::Name;
 use manifest_codec::{Manifest, Version, labels_place};
 use manifest_switch::Slot;
 use std::alloc::Global;
+use store_fault::StoreFault;
 
 /// The file of the copy of the grammar's text.
 pub(crate) const GRAMMAR_FILE: u32 = 2;

@@ -3,17 +3,17 @@
 
 mod commit;
 mod comparison;
-mod store_tally;
 mod grammar_copy;
 mod load;
 mod opened;
 mod put_part;
 mod store;
+mod store_tally;
 mod stream;
 mod tally;
 
 pub use comparison::same_input;
-pub use store_fault::StoreFault;
 pub use opened::{OpenMode, Opened, open};
 pub use store::Store;
+pub use store_fault::StoreFault;
 pub use tally::Tally;

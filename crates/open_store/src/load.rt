@@ -13,7 +13,6 @@ ghost use Rattle.open_store.specs.PartRead.{IsRead, IsRefused, IsTold, count_bel
 ghost use Rattle.open_store.specs.Store.{expect_in};
 ghost use Rattle.open_store.specs.Stream.{IsAt, IsStream, IsTally};
 
-use store_fault::StoreFault;
 use crate::store::Store;
 use crate::stream::PartStream;
 use crate::tally::{Tally, count_below};
@@ -21,6 +20,7 @@ use disk_model::{Disk, FormKind};
 use graph_words::Born;
 use partition_file::Partition;
 use std::alloc::Global;
+use store_fault::StoreFault;
 
 impl Store {
     // A stream of partition `i`.

@@ -12,7 +12,6 @@ ghost use Rattle.open_store.specs.Copy.{IsBadCopy, IsCopyRead};
 ghost use Rattle.open_store.specs.Opened.{IsBadStore, IsOpened, IsOpenedAlone};
 
 use crate::commit::intervals_of;
-use store_fault::StoreFault;
 use crate::grammar_copy::grammar_of;
 use crate::store::Store;
 use disk_model::Disk;
@@ -20,6 +19,7 @@ use grammar_norm::normalise;
 use manifest_codec::Manifest;
 use manifest_switch::{Found, Slot, close_other, current};
 use std::alloc::Global;
+use store_fault::StoreFault;
 
 /// What a store is opened for.
 #[derive(Clone, Copy, Debug, PartialEq, Eq)]

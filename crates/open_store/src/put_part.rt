@@ -11,12 +11,12 @@ ghost use Rattle.manifest_codec.specs.declared.types.PartEntry.{PartEntry as APa
 ghost use Rattle.store_law.specs.Steps.{IsFree};
 ghost use Rattle.open_store.specs.Free.{IsUsed};
 
-use store_fault::StoreFault;
 use crate::store::Store;
 use disk_model::{Disk, rewrite};
 use manifest_codec::PartEntry;
 use partition_file::{Partition, encode};
 use std::alloc::Global;
+use store_fault::StoreFault;
 
 /// The first file that may hold a partition.
 const FIRST_FILE: u32 = 4;

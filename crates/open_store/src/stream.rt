@@ -12,11 +12,11 @@ ghost use Rattle.partition_file.specs.Spelling.{IsBytes, first_break};
 ghost use Rattle.store_fault.specs.declared.fault.StoreFault.TheVariants.{BadStore, DiskFault};
 ghost use Rattle.open_store.specs.Stream.{HasEnded, IsAt, IsStream};
 
-use store_fault::StoreFault;
 use disk_model::{Disk, Failed};
 use graph_words::Born;
 use partition_file::{Expect, PartFault, RowReader, RowStep, most_edges, read_piece};
 use std::alloc::Global;
+use store_fault::StoreFault;
 
 /// How many bytes are read at a time.
 pub(crate) const PIECE_LEN: usize = 65_536;

@@ -6,8 +6,8 @@ ghost use Rattle.row_table.specs.Joined.{AppendsLabel, AppendsBelow, AppendsLack
 ghost use Rattle.row_table.specs.Joined.{GivesEnd, IsNextLabel, MarksEnds, Sifts, vertex as vertex_of};
 
 use crate::blocks::{Block, run_of};
-use crate::ordered_edges::has_edge;
 use crate::number_set::NumberSet;
+use crate::ordered_edges::has_edge;
 use graph_words::{Born, Edge, LabelId, Vertex};
 use std::alloc::{AllocError, Global};
 

@@ -6,7 +6,7 @@ mod commands;
 #[cfg(test)]
 mod disks;
 #[cfg(test)]
-mod faults;
+mod failures;
 #[cfg(test)]
 mod fixtures;
 #[cfg(test)]

@@ -1,8 +1,9 @@
-use Rattle.std.proofs.Common.{length, sym, ap, ◌∙◌, arith}
+use Rattle.std.proofs.Common.{length, refl, sym, ap, ◌∙◌, arith}
 use Rattle.std.specs.Prelude.{IsTrue}
 use Rattle.std.proofs.lemmas.Result.{err_from_is_err_and}
 use Rattle.normal_law.specs.NormalForm.{normal_form}
 use Rattle.edge_text.proofs.AgainLemmas.{distinct-of_once}
+use Rattle.faults.proofs.Handed.{disk_more, holds_more, text_more}
 use Rattle.import_text.proofs.GoodLemmas.{IsStart, good_place, good_names, good_vertices, gathers_copy}
 use Rattle.import_text.proofs.given_part.gather_copy.Goals as goal
 
@@ -17,36 +18,51 @@ returns-in_err-found-clause-cause g c =
 
 pub returns-then-found-len-clause-cause : goal.returns-then-found-len-clause-cause
 returns-then-found-len-clause-cause g c =
-    rw c.BADTEXTfound-len.ensures (record { file_is = refl; place_is = refl; kind_is = refl; why = λ tells good.
-    let once = c.names-names.ensures.table.once in
-    let fed = c.in_ok-gathering.ensures.names c.args.copied.now.labels (c.in_ok-copy.ensures ∙ sym (distinct-of_once c.args.copied.now.labels once)) in
-    let none = c.in_ok-gathering.ensures.none in
-    let start : IsStart c.args.span.0 c.args.span.1 c.in_ok-gathering.gathering = record { lo_is = none.0; hi_is = none.1; given = none.2; vertices = none.3 } in
-    let file = c.in_ok-found.ensures.gathered c.args.copied.now.labels fed in
-    let has = good_place (normal_form c.args.normal.now) c.args.copied.now.labels c.args.copied.now.len c.args.copied.now.vertices c.args.span.0 c.args.span.1 (IsTrue g.D.Disk.tells) (g.D.Disk.seen c.args.disk.now c.args.copied.now.file) c.in_ok-gathering.gathering c.gather_pieces.new.gathering c.in_ok-found.found start file tells good in
-    c.if-found-len.true has
+    rw c.bad_text.ensures (record {
+      file_is = refl;
+      place_is = refl;
+      kind_is = refl;
+      why = λ tells good.
+          let once = c.names-names.ensures.table.once in
+          let fed = c.in_ok-gathering.ensures.names c.args.copied.now.labels (c.in_ok-copy.ensures ∙ sym (distinct-of_once c.args.copied.now.labels once)) in
+          let none = c.in_ok-gathering.ensures.none in
+          let start : IsStart c.args.span.0 c.args.span.1 c.in_ok-gathering.gathering = record { lo_is = none.0; hi_is = none.1; given = none.2; vertices = none.3 } in
+          let file = c.in_ok-found.ensures.gathered c.args.copied.now.labels fed in
+          let has = good_place (normal_form c.args.normal.now) c.args.copied.now.labels c.args.copied.now.len c.args.copied.now.vertices c.args.span.0 c.args.span.1 (IsTrue g.D.Disk.tells) (g.D.Disk.seen c.args.disk.now c.args.copied.now.file) c.in_ok-gathering.gathering c.gather_pieces.new.gathering c.in_ok-found.found start file tells good in
+          c.if-found-len.true has;
+    })
 
 pub returns-then-names-clause-cause : goal.returns-then-names-clause-cause
 returns-then-names-clause-cause g c =
-    rw c.BADTEXTnames.ensures (record { file_is = refl; place_is = refl; kind_is = refl; why = λ tells good.
-    let once = c.names-names.ensures.table.once in
-    let fed = c.in_ok-gathering.ensures.names c.args.copied.now.labels (c.in_ok-copy.ensures ∙ sym (distinct-of_once c.args.copied.now.labels once)) in
-    let none = c.in_ok-gathering.ensures.none in
-    let start : IsStart c.args.span.0 c.args.span.1 c.in_ok-gathering.gathering = record { lo_is = none.0; hi_is = none.1; given = none.2; vertices = none.3 } in
-    let file = c.in_ok-found.ensures.gathered c.args.copied.now.labels fed in
-    let has = good_names (normal_form c.args.normal.now) c.args.copied.now.labels c.args.copied.now.len c.args.copied.now.vertices c.args.span.0 c.args.span.1 (IsTrue g.D.Disk.tells) (g.D.Disk.seen c.args.disk.now c.args.copied.now.file) c.in_ok-gathering.gathering c.gather_pieces.new.gathering c.in_ok-found.found start file tells good in
-    c.if-names.true (c.names.ensures ∙ has ∙ ap length (sym c.names-names.ensures.names))
+    rw c.bad_text-then-names.ensures (record {
+      file_is = refl;
+      place_is = refl;
+      kind_is = refl;
+      why = λ tells good.
+          let once = c.names-names.ensures.table.once in
+          let fed = c.in_ok-gathering.ensures.names c.args.copied.now.labels (c.in_ok-copy.ensures ∙ sym (distinct-of_once c.args.copied.now.labels once)) in
+          let none = c.in_ok-gathering.ensures.none in
+          let start : IsStart c.args.span.0 c.args.span.1 c.in_ok-gathering.gathering = record { lo_is = none.0; hi_is = none.1; given = none.2; vertices = none.3 } in
+          let file = c.in_ok-found.ensures.gathered c.args.copied.now.labels fed in
+          let has = good_names (normal_form c.args.normal.now) c.args.copied.now.labels c.args.copied.now.len c.args.copied.now.vertices c.args.span.0 c.args.span.1 (IsTrue g.D.Disk.tells) (g.D.Disk.seen c.args.disk.now c.args.copied.now.file) c.in_ok-gathering.gathering c.gather_pieces.new.gathering c.in_ok-found.found start file tells good in
+          c.if-names.true (c.names.ensures ∙ has ∙ ap length (sym c.names-names.ensures.names));
+    })
 
 pub returns-then-vertices-clause-cause : goal.returns-then-vertices-clause-cause
 returns-then-vertices-clause-cause g c =
-    rw c.BADTEXTvertices.ensures (record { file_is = refl; place_is = refl; kind_is = refl; why = λ tells good.
-    let once = c.names-names.ensures.table.once in
-    let fed = c.in_ok-gathering.ensures.names c.args.copied.now.labels (c.in_ok-copy.ensures ∙ sym (distinct-of_once c.args.copied.now.labels once)) in
-    let none = c.in_ok-gathering.ensures.none in
-    let start : IsStart c.args.span.0 c.args.span.1 c.in_ok-gathering.gathering = record { lo_is = none.0; hi_is = none.1; given = none.2; vertices = none.3 } in
-    let file = c.in_ok-found.ensures.gathered c.args.copied.now.labels fed in
-    let has = good_vertices (normal_form c.args.normal.now) c.args.copied.now.labels c.args.copied.now.len c.args.copied.now.vertices c.args.span.0 c.args.span.1 (IsTrue g.D.Disk.tells) (g.D.Disk.seen c.args.disk.now c.args.copied.now.file) c.in_ok-gathering.gathering c.gather_pieces.new.gathering c.in_ok-found.found start file tells good in
-    omega (arith, c.if-vertices.true, c.vertices.ensures, has)
+    rw c.bad_text-then-vertices.ensures (record {
+      file_is = refl;
+      place_is = refl;
+      kind_is = refl;
+      why = λ tells good.
+          let once = c.names-names.ensures.table.once in
+          let fed = c.in_ok-gathering.ensures.names c.args.copied.now.labels (c.in_ok-copy.ensures ∙ sym (distinct-of_once c.args.copied.now.labels once)) in
+          let none = c.in_ok-gathering.ensures.none in
+          let start : IsStart c.args.span.0 c.args.span.1 c.in_ok-gathering.gathering = record { lo_is = none.0; hi_is = none.1; given = none.2; vertices = none.3 } in
+          let file = c.in_ok-found.ensures.gathered c.args.copied.now.labels fed in
+          let has = good_vertices (normal_form c.args.normal.now) c.args.copied.now.labels c.args.copied.now.len c.args.copied.now.vertices c.args.span.0 c.args.span.1 (IsTrue g.D.Disk.tells) (g.D.Disk.seen c.args.disk.now c.args.copied.now.file) c.in_ok-gathering.gathering c.gather_pieces.new.gathering c.in_ok-found.found start file tells good in
+          omega (arith, c.if-vertices.true, c.vertices.ensures, has);
+    })
 
 pub returns-clause-gathered : goal.returns-clause-gathered
 returns-clause-gathered g c =
