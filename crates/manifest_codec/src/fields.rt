@@ -6,19 +6,17 @@ ghost use Rattle.manifest_codec.specs.Rules as place;
 ghost use Rattle.manifest_codec.specs.Rules.{is_magic, magic_of, at_most};
 ghost use Rattle.manifest_codec.specs.FieldsRead.{Gives, Read, number_at, field_at, head_at, broken};
 
+use crate::format::{FIRST_MAGIC, LABELS_PLACE};
 use crate::types::{Broken, FieldError, Head, Version};
 use byteorder::{ByteOrder, LittleEndian};
 use disk_model::FormKind;
-
-/// The magic of the first version, the bytes `GSM1`.
-const FIRST_MAGIC: u32 = 0x314D_5347;
 
 /// Where a version has the number of labels, in bytes from the gate.
 pub fn labels_place(version: Version) -> u64
     ensures { result ≡ place.labels_place version }
 {
     match version {
-        Version::First => 34,
+        Version::First => LABELS_PLACE,
     }
 }
 

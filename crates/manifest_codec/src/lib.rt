@@ -5,6 +5,7 @@ mod cells;
 mod decoder;
 mod encoder;
 mod fields;
+mod format;
 mod labels;
 mod laws;
 mod parts;
@@ -14,6 +15,7 @@ mod types;
 pub use decoder::decode;
 pub use encoder::encode;
 pub use fields::labels_place;
+pub use format::{EDGES_FILE, FIRST_PART_FILE, GRAMMAR_FILE};
 pub use laws::{
     encode_then_decode, has_bytes, longest_spelling, magics_are_spelled, no_shared_spelling,
     reading_is_spelling, spelling_is_read,

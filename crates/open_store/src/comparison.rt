@@ -15,6 +15,7 @@ use crate::store::Store;
 use crate::stream::{PIECE_LEN, read_front};
 use disk_model::{Disk, Failed};
 use io_edge::{InputFile, Inputs};
+use manifest_codec::{EDGES_FILE, GRAMMAR_FILE};
 use std::alloc::Global;
 use store_fault::StoreFault;
 
@@ -41,8 +42,8 @@ fn copy_place(store: &Store, file: InputFile) -> (u32, u64)
 {
     let manifest = store.manifest();
     match file {
-        InputFile::Grammar => (2, manifest.grammar_len),
-        _ => (3, manifest.edges_len),
+        InputFile::Grammar => (GRAMMAR_FILE, manifest.grammar_len),
+        _ => (EDGES_FILE, manifest.edges_len),
     }
 }
 

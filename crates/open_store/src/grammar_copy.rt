@@ -14,13 +14,10 @@ ghost use Rattle.open_store.specs.Copy.{IsBadCopy, IsCopyRead};
 use disk_model::{Disk, FormKind};
 use grammar_norm::{Grammar, GrammarFault, LabelTable, read_grammar};
 use label_table::Name;
-use manifest_codec::{Manifest, Version, labels_place};
+use manifest_codec::{GRAMMAR_FILE, Manifest, Version, labels_place};
 use manifest_switch::Slot;
 use std::alloc::Global;
 use store_fault::StoreFault;
-
-/// The file of the copy of the grammar's text.
-pub(crate) const GRAMMAR_FILE: u32 = 2;
 
 // The file is shorter than the manifest says.
 fn short(len: u64) -> StoreFault

@@ -13,13 +13,10 @@ ghost use Rattle.open_store.specs.Free.{IsUsed};
 
 use crate::store::Store;
 use disk_model::{Disk, rewrite};
-use manifest_codec::PartEntry;
+use manifest_codec::{FIRST_PART_FILE, PartEntry};
 use partition_file::{Partition, encode};
 use std::alloc::Global;
 use store_fault::StoreFault;
-
-/// The first file that may hold a partition.
-const FIRST_FILE: u32 = 4;
 
 // Whether the file of some partition has the number.
 fn is_named(parts: &[PartEntry], file: u32) -> bool
@@ -53,7 +50,7 @@ impl Store {
         ensures least { (file : ℕ) → 4 ≤ file → file < result → IsUsed self.now.manifest.parts taken.now file }
         ensures within { result < 1024 }
     {
-        let mut file = FIRST_FILE;
+        let mut file = FIRST_PART_FILE;
         while is_used(self.manifest.parts.as_slice(), taken, file) {
             file += 1;
         }

@@ -274,38 +274,46 @@ fn add_rows<'a>(
     Ok(())
 }
 
+/// The rows of a round, with those of them that are new for it.
+#[derive(Clone, Copy)]
+pub(crate) struct Snapshot<'a> {
+    pub(crate) rows: &'a Rows,
+    pub(crate) newer: &'a Rows,
+    /// The labels of the new edges.
+    pub(crate) newer_labels: &'a NumberSet,
+    pub(crate) normal: &'a Normal,
+    pub(crate) since: u64,
+}
+
 /// Sets the blocks to those of a vertex: each new edge from there with each edge behind, and each old one with each
 /// new edge behind.
 pub(crate) fn set_blocks<'a>(
-    normal: &'a Normal,
-    rows: &'a Rows,
-    newer: &'a Rows,
-    newer_labels: &'a NumberSet,
-    since: u64,
+    snapshot: &Snapshot<'a>,
     vertex: Vertex,
     labels: &mut Vec<LabelId>,
     blocks: &mut Vec<Block<'a>>,
 ) -> Result<(), AllocError>
-    requires newer { newer.now ≡ newer_of since rows.now }
-    requires labels { HasLabels newer.now.edges newer_labels.now }
-    ensures { OnOk result (GivesJoins (IsJoinOf (normal_form normal.now) rows.now.edges since) vertex blocks.new.items) }
+    requires newer { snapshot.now.newer.now ≡ newer_of snapshot.now.since snapshot.now.rows.now }
+    requires labels { HasLabels snapshot.now.newer.now.edges snapshot.now.newer_labels.now }
+    ensures { OnOk result (GivesJoins (IsJoinOf (normal_form snapshot.now.normal.now) snapshot.now.rows.now.edges
+        snapshot.now.since) vertex blocks.new.items) }
 {
     blocks.clear();
     let with_all = Seconds {
-        normal,
-        rows,
+        normal: snapshot.normal,
+        rows: snapshot.rows,
         labels: None,
         every: true,
-        since,
+        since: snapshot.since,
     };
-    add_rows(&with_all, newer.row(vertex.0), labels, blocks)?;
+    add_rows(&with_all, snapshot.newer.row(vertex.0), labels, blocks)?;
     let with_newer = Seconds {
-        normal,
-        rows: newer,
-        labels: Some(newer_labels),
+        normal: snapshot.normal,
+        rows: snapshot.newer,
+        labels: Some(snapshot.newer_labels),
         every: false,
-        since,
+        since: snapshot.since,
     };
-    add_rows(&with_newer, rows.row(vertex.0), labels, blocks)?;
+    add_rows(&with_newer, snapshot.rows.row(vertex.0), labels, blocks)?;
     Ok(())
 }

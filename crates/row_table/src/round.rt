@@ -5,7 +5,7 @@ ghost use Rattle.closing_machine.specs.Rounds.{IsRound};
 ghost use Rattle.row_table.specs.Loaded.{LiesIn, LiesInHigh, newer_of};
 ghost use Rattle.row_table.specs.Joined.{AppendsJoins, HasLabels, IsJoinOf};
 
-use crate::blocks::{Block, mark_labels, set_blocks};
+use crate::blocks::{Block, Snapshot, mark_labels, set_blocks};
 use crate::number_set::NumberSet;
 use crate::rows::Rows;
 use crate::sieve::Sieve;
@@ -13,17 +13,6 @@ use crate::span::Span;
 use graph_words::{Edge, EdgeList, LabelId, Vertex};
 use normal_form::Normal;
 use std::alloc::{AllocError, Global};
-
-/// The rows of a round, with those of them that are new for it.
-#[derive(Clone, Copy)]
-struct Snapshot<'a> {
-    rows: &'a Rows,
-    newer: &'a Rows,
-    /// The labels of the new edges.
-    newer_labels: &'a NumberSet,
-    normal: &'a Normal,
-    since: u64,
-}
 
 /// Adds the joins from one vertex that the rows lack.
 fn join_vertex<'a>(
@@ -40,16 +29,7 @@ fn join_vertex<'a>(
         (IsJoinOf (normal_form snapshot.now.normal.now) snapshot.now.rows.now.edges snapshot.now.since)
         (λ v. v ≡ vertex.0) out.old.items out.new.items) }
 {
-    set_blocks(
-        snapshot.normal,
-        snapshot.rows,
-        snapshot.newer,
-        snapshot.newer_labels,
-        snapshot.since,
-        vertex,
-        labels,
-        blocks,
-    )?;
+    set_blocks(snapshot, vertex, labels, blocks)?;
     sieve.join_row(vertex, snapshot.rows.row(vertex.0), blocks, out)?;
     Ok(())
 }

@@ -16,13 +16,10 @@ use dest_map::DestMap;
 use disk_model::{Disk, rewrite};
 use import_text::given_edges;
 use intervals::Intervals;
-use manifest_codec::{PartEntry, PartList};
+use manifest_codec::{FIRST_PART_FILE, PartEntry, PartList};
 use open_store::StoreFault;
 use partition_file::{Partition, encode};
 use std::alloc::Global;
-
-/// The file of the first partition.
-const FIRST_FILE: u32 = 4;
 
 // The partition of the vertices of an interval with which a closing begins.
 fn given_part<D: Disk>(
@@ -69,7 +66,7 @@ fn put_next<D: Disk>(
     let span = intervals.bounds(i);
     let part = given_part(alloc, disk, source, span)?;
     count_edges(&mut tables.map, intervals, i, part.edges());
-    let file = FIRST_FILE + i as u32;
+    let file = FIRST_PART_FILE + i as u32;
     let bytes = encode(alloc, &part)?;
     rewrite(disk, file, &bytes)?;
     tables.parts.push(PartEntry { hi: span.1, file })?;

@@ -13,14 +13,9 @@ use disk_model::{Disk, rewrite};
 use grammar_norm::{Grammar, LabelTable, Normal, normalise, read_grammar};
 use import_text::{Copied, copy_edges};
 use io_edge::Inputs;
+use manifest_codec::{EDGES_FILE, GRAMMAR_FILE};
 use open_store::StoreFault;
 use std::alloc::Global;
-
-/// The file of the copy of the grammar's text.
-const GRAMMAR_FILE: u32 = 2;
-
-/// The file of the copy of the edge file.
-pub(crate) const EDGES_FILE: u32 = 3;
 
 /// Both texts, read and copied.
 #[derive(Drop)]
