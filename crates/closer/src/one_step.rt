@@ -50,7 +50,8 @@ fn close_pair<D: Disk>(
     ensures next { IfOk result (IsNext store.now D.tells (D.seen disk.old) (D.seen disk.new) i j) }
     ensures any_moment { LeavesBy D.Disk disk.old disk.new (Spares store.now.manifest) }
     ensures later { D.faults disk.old ≤ D.faults disk.new }
-    ensures cause { HasReason why_of (on_disk D.Disk disk.old disk.new (BlamesPair store.now D.tells (D.seen disk.old) i j)) result }
+    ensures cause { HasReason why_of (on_disk D.Disk disk.old disk.new
+        (BlamesPair store.now D.tells (D.seen disk.old) i j)) result }
 {
     let (low, high) = in_order(i, j);
     let (first, second) = load_pair(alloc, disk, store, low, high)?;
@@ -88,7 +89,8 @@ pub fn step<D: Disk>(
     ensures again { IfOk result (λ r. IfAgain r (IsStepped D.tells (D.seen disk.old) store (D.seen disk.new) (D.may_leave disk.new))) }
     ensures any_moment { LeavesBy D.Disk disk.old disk.new (Moves store (D.seen disk.old)) }
     ensures later { D.faults disk.old ≤ D.faults disk.new }
-    ensures cause { HasReason why_of (on_disk D.Disk disk.old disk.new (BlamesPicked store D.tells (D.seen disk.old))) result }
+    ensures cause { HasReason why_of (on_disk D.Disk disk.old disk.new
+        (BlamesPicked store D.tells (D.seen disk.old))) result }
 {
     let manifest = store.manifest();
     let Some((i, j)) = pick(&manifest.map, &manifest.marks) else {

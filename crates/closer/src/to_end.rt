@@ -32,7 +32,8 @@ pub fn run_to_end<D: Disk>(
     ensures rest { IsDone store.manifest → IfOk result (λ s. (s ≡ store) × (disk.new ≡ disk.old)) }
     ensures any_moment { LeavesBy D.Disk disk.old disk.new (Moves store (D.seen disk.old)) }
     ensures later { D.faults disk.old ≤ D.faults disk.new }
-    ensures cause { HasReason why_of (on_disk D.Disk disk.old disk.new (BlamesOnTheWay store D.tells (D.seen disk.old))) result }
+    ensures cause { HasReason why_of (on_disk D.Disk disk.old disk.new
+        (BlamesOnTheWay store D.tells (D.seen disk.old))) result }
 {
     // The manifest keeps its rules, also where no step is made.
     let _manifest = store.manifest();

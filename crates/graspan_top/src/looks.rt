@@ -154,7 +154,8 @@ fn print_query<D: Disk, O: Sink>(
     ensures looks { OnlyLooks D.Disk disk.old disk.new }
     ensures later { D.faults disk.old ≤ D.faults disk.new }
     ensures writes { O.faults out.old ≤ O.faults out.new }
-    ensures cause { HasReason why_not_printed (print_causes (WriteRose O.Sink out.old out.new) (DiskRose D.Disk disk.old disk.new) (IsBlamed store.now D.tells (D.seen disk.old) (first_asked store.now (Some ends.from)) 1)) result }
+    ensures cause { HasReason why_not_printed (print_causes (WriteRose O.Sink out.old out.new) (DiskRose D.Disk disk.old disk.new)
+        (IsBlamed store.now D.tells (D.seen disk.old) (first_asked store.now (Some ends.from)) 1)) result }
 {
     let count = answers(alloc, disk, store, label, Some(ends.from), ends.to, out)?;
     out.write(count_line(count).as_slice())?;

@@ -46,7 +46,8 @@ fn print_shown<D: Disk, O: Sink>(
     ensures looks { OnlyLooks D.Disk disk.old disk.new }
     ensures later { D.faults disk.old ≤ D.faults disk.new }
     ensures writes { O.faults out.old ≤ O.faults out.new }
-    ensures cause { HasReason why_not_printed (print_causes (WriteRose O.Sink out.old out.new) (DiskRose D.Disk disk.old disk.new) (IsBlamed store.now D.tells (D.seen disk.old) 0 (length store.now.manifest.parts))) result }
+    ensures cause { HasReason why_not_printed (print_causes (WriteRose O.Sink out.old out.new) (DiskRose D.Disk disk.old disk.new)
+        (IsBlamed store.now D.tells (D.seen disk.old) 0 (length store.now.manifest.parts))) result }
 {
     match shown {
         None => Ok(()),
@@ -76,7 +77,8 @@ fn print_run<D: Disk, O: Sink>(
     ensures looks { OnlyLooks D.Disk disk.old disk.new }
     ensures later { D.faults disk.old ≤ D.faults disk.new }
     ensures writes { O.faults out.old ≤ O.faults out.new }
-    ensures cause { HasReason why_not_printed (print_causes (WriteRose O.Sink out.old out.new) (DiskRose D.Disk disk.old disk.new) (IsBlamed store.now D.tells (D.seen disk.old) 0 (length store.now.manifest.parts))) result }
+    ensures cause { HasReason why_not_printed (print_causes (WriteRose O.Sink out.old out.new) (DiskRose D.Disk disk.old disk.new)
+        (IsBlamed store.now D.tells (D.seen disk.old) 0 (length store.now.manifest.parts))) result }
 {
     head(store, out)?;
     tally(alloc, disk, store, out)?;

@@ -60,7 +60,8 @@ fn gather_pieces<D: Disk>(
     requires small { length piece.old ≤ 65536 }
     ensures gathered { IfOk result (λ len. (names : List (List ℕ)) → IsFed 0 names [] gathering.old.reader []
         → GathersFile (normal_form normal.now) names (IsTrue D.tells) (D.seen disk.old file) len gathering.old gathering.new) }
-    ensures cause { HasReason why_of (on_disk D.Disk disk.old disk.new (BlamesText (IsTrue D.tells → (names : List (List ℕ))
+    ensures cause { HasReason why_of (on_disk D.Disk disk.old disk.new
+        (BlamesText (IsTrue D.tells → (names : List (List ℕ))
         → IsFed 0 names [] gathering.old.reader [] → edges_fault 0 names (D.seen disk.old file) ≡ None → ⊥) file)) result }
     ensures later { D.faults disk.old ≤ D.faults disk.new }
     ensures looks { OnlyLooks D.Disk disk.old disk.new }

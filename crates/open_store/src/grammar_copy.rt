@@ -90,7 +90,8 @@ pub(crate) fn grammar_of<D: Disk>(
     ensures read { IsTrue D.tells → IfOk result (λ rules. IsCopyRead manifest.now (D.seen disk.old 2) rules) }
     ensures looks { OnlyLooks D.Disk disk.old disk.new }
     ensures later { D.faults disk.old ≤ D.faults disk.new }
-    ensures cause { HasReason why_of (on_disk D.Disk disk.old disk.new (λ file place kind. IsTrue D.tells → IsBadCopy slot manifest.now (D.seen disk.old 2) file place kind)) result }
+    ensures cause { HasReason why_of (on_disk D.Disk disk.old disk.new
+        (λ file place kind. IsTrue D.tells → IsBadCopy slot manifest.now (D.seen disk.old 2) file place kind)) result }
 {
     let bytes = copy_bytes(alloc, disk, manifest.grammar_len)?;
     match read_grammar(alloc, &bytes) {

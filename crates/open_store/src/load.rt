@@ -86,7 +86,8 @@ impl Store {
         ensures read { IfOk result (λ v. IsRead self.now i D.tells (D.seen disk.old (part_file self.now.manifest i)) v.items) }
         ensures looks { OnlyLooks D.Disk disk.old disk.new }
         ensures later { D.faults disk.old ≤ D.faults disk.new }
-        ensures cause { HasReason why_of (on_disk D.Disk disk.old disk.new (λ file place kind. (file ≡ part_file self.now.manifest i)
+        ensures cause { HasReason why_of (on_disk D.Disk disk.old disk.new
+            (λ file place kind. (file ≡ part_file self.now.manifest i)
             × (IsTrue D.tells → IsRefused self.now i (D.seen disk.old file) place kind))) result }
     {
         let mut stream = self.stream(alloc, disk, i)?;
@@ -115,7 +116,8 @@ impl Store {
         ensures read { IfOk result (λ p. IsRead self.now i D.tells (D.seen disk.old (part_file self.now.manifest i)) p.edges) }
         ensures looks { OnlyLooks D.Disk disk.old disk.new }
         ensures later { D.faults disk.old ≤ D.faults disk.new }
-        ensures cause { HasReason why_of (on_disk D.Disk disk.old disk.new (λ file place kind. (file ≡ part_file self.now.manifest i)
+        ensures cause { HasReason why_of (on_disk D.Disk disk.old disk.new
+            (λ file place kind. (file ≡ part_file self.now.manifest i)
             × (IsTrue D.tells → IsRefused self.now i (D.seen disk.old file) place kind))) result }
     {
         let edges = self.edges(alloc, disk, i)?;
@@ -140,7 +142,8 @@ impl Store {
             × (n ≡ count_below_of self.now.ends i at edges)) }
         ensures looks { OnlyLooks D.Disk disk.old disk.new }
         ensures later { D.faults disk.old ≤ D.faults disk.new }
-        ensures cause { HasReason why_of (on_disk D.Disk disk.old disk.new (λ file place kind. (file ≡ part_file self.now.manifest j)
+        ensures cause { HasReason why_of (on_disk D.Disk disk.old disk.new
+            (λ file place kind. (file ≡ part_file self.now.manifest j)
             × (IsTrue D.tells → IsRefused self.now j (D.seen disk.old file) place kind))) result }
     {
         let mut stream = self.stream(alloc, disk, j)?;

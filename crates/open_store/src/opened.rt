@@ -51,7 +51,8 @@ fn store_of<D: Disk>(
     ensures copy { IsTrue D.tells → IfOk result (λ s. IsCopyRead manifest (D.seen disk.old 2) s.rules) }
     ensures looks { OnlyLooks D.Disk disk.old disk.new }
     ensures later { D.faults disk.old ≤ D.faults disk.new }
-    ensures cause { HasReason why_of (on_disk D.Disk disk.old disk.new (λ file place kind. IsTrue D.tells → IsBadCopy slot manifest (D.seen disk.old 2) file place kind)) result }
+    ensures cause { HasReason why_of (on_disk D.Disk disk.old disk.new
+        (λ file place kind. IsTrue D.tells → IsBadCopy slot manifest (D.seen disk.old 2) file place kind)) result }
 {
     let grammar = grammar_of(alloc, disk, slot, &manifest)?;
     let normal = normalise(alloc, &grammar)?;
@@ -69,7 +70,8 @@ fn look<D: Disk>(alloc: Global, disk: &mut D) -> Result<Opened, StoreFault>
     ensures opened { IsTrue D.tells → IfOk result (IsOpened (D.seen disk.old)) }
     ensures looks { OnlyLooks D.Disk disk.old disk.new }
     ensures later { D.faults disk.old ≤ D.faults disk.new }
-    ensures cause { HasReason why_of (on_disk D.Disk disk.old disk.new (λ file place kind. IsTrue D.tells → IsBadStore (D.seen disk.old) file place kind)) result }
+    ensures cause { HasReason why_of (on_disk D.Disk disk.old disk.new
+        (λ file place kind. IsTrue D.tells → IsBadStore (D.seen disk.old) file place kind)) result }
 {
     match current(alloc, disk)? {
         Found::Blank => Ok(Opened::Blank),
@@ -86,7 +88,8 @@ fn grasp<D: Disk>(alloc: Global, disk: &mut D) -> Result<Opened, StoreFault>
     ensures synced { IfOk result (λ _. IsDurable D.Disk disk.new) }
     ensures any_moment { LeavesBy D.Disk disk.old disk.new Stays }
     ensures later { D.faults disk.old ≤ D.faults disk.new }
-    ensures cause { HasReason why_of (on_disk D.Disk disk.old disk.new (λ file place kind. IsTrue D.tells → IsBadStore (D.seen disk.old) file place kind)) result }
+    ensures cause { HasReason why_of (on_disk D.Disk disk.old disk.new
+        (λ file place kind. IsTrue D.tells → IsBadStore (D.seen disk.old) file place kind)) result }
 {
     match current(alloc, disk)? {
         Found::Blank => Ok(Opened::Blank),
@@ -116,7 +119,8 @@ pub fn open<D: Disk>(alloc: Global, disk: &mut D, mode: OpenMode) -> Result<Open
     ensures any_moment { LeavesBy D.Disk disk.old disk.new Stays }
     ensures looks { mode ≡ Look → OnlyLooks D.Disk disk.old disk.new }
     ensures later { D.faults disk.old ≤ D.faults disk.new }
-    ensures cause { HasReason why_of (on_disk D.Disk disk.old disk.new (λ file place kind. IsTrue D.tells → IsBadStore (D.seen disk.old) file place kind)) result }
+    ensures cause { HasReason why_of (on_disk D.Disk disk.old disk.new
+        (λ file place kind. IsTrue D.tells → IsBadStore (D.seen disk.old) file place kind)) result }
 {
     match mode {
         OpenMode::Look => look(alloc, disk),

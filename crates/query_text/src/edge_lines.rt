@@ -73,7 +73,8 @@ pub fn answers<D: Disk, O: Sink>(
     ensures looks { OnlyLooks D.Disk disk.old disk.new }
     ensures later { D.faults disk.old ≤ D.faults disk.new }
     ensures writes { O.faults sink.old ≤ O.faults sink.new }
-    ensures cause { HasReason why_not_printed (print_causes (WriteRose O.Sink sink.old sink.new) (DiskRose D.Disk disk.old disk.new) (IsBlamed store.now D.tells (D.seen disk.old) (first_asked store.now from) (wanted store.now from))) result }
+    ensures cause { HasReason why_not_printed (print_causes (WriteRose O.Sink sink.old sink.new) (DiskRose D.Disk disk.old disk.new)
+        (IsBlamed store.now D.tells (D.seen disk.old) (first_asked store.now from) (wanted store.now from))) result }
 {
     let (first, end) = partitions_of(store, from);
     let show = Show::Label { label, from, to };
@@ -103,7 +104,8 @@ pub fn dump<D: Disk, O: Sink>(
     ensures looks { OnlyLooks D.Disk disk.old disk.new }
     ensures later { D.faults disk.old ≤ D.faults disk.new }
     ensures writes { O.faults sink.old ≤ O.faults sink.new }
-    ensures cause { HasReason why_not_printed (print_causes (WriteRose O.Sink sink.old sink.new) (DiskRose D.Disk disk.old disk.new) (IsBlamed store.now D.tells (D.seen disk.old) 0 (length store.now.manifest.parts))) result }
+    ensures cause { HasReason why_not_printed (print_causes (WriteRose O.Sink sink.old sink.new) (DiskRose D.Disk disk.old disk.new)
+        (IsBlamed store.now D.tells (D.seen disk.old) 0 (length store.now.manifest.parts))) result }
 {
     let end = store.intervals().len();
     show_parts(alloc, disk, store, 0, end, &Show::Named, sink)?;

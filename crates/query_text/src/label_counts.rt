@@ -63,7 +63,8 @@ fn count_part<D: Disk>(
         × (length read ≡ i + 1) × AreTallied (length store.now.manifest.labels) (all_edges read) counts.new.items) }
     ensures looks { OnlyLooks D.Disk disk.old disk.new }
     ensures later { D.faults disk.old ≤ D.faults disk.new }
-    ensures cause { HasReason why_not_printed (on_disk D.Disk disk.old disk.new (IsBlamed store.now D.tells (D.seen disk.old) 0 (length store.now.manifest.parts))) result }
+    ensures cause { HasReason why_not_printed (on_disk D.Disk disk.old disk.new
+        (IsBlamed store.now D.tells (D.seen disk.old) 0 (length store.now.manifest.parts))) result }
 {
     let part = load(alloc, disk, store, i)?;
     count_edges(counts, part.edges());
@@ -81,7 +82,8 @@ fn count_labels<D: Disk>(
         × AreTallied (length store.now.manifest.labels) (all_edges read) v.items) }
     ensures looks { OnlyLooks D.Disk disk.old disk.new }
     ensures later { D.faults disk.old ≤ D.faults disk.new }
-    ensures cause { HasReason why_not_printed (on_disk D.Disk disk.old disk.new (IsBlamed store.now D.tells (D.seen disk.old) 0 (length store.now.manifest.parts))) result }
+    ensures cause { HasReason why_not_printed (on_disk D.Disk disk.old disk.new
+        (IsBlamed store.now D.tells (D.seen disk.old) 0 (length store.now.manifest.parts))) result }
 {
     let mut counts = vec![in alloc; 0; store.manifest().labels.len()]?;
     for i in 0..store.intervals().len() {
@@ -120,7 +122,8 @@ fn print_lines<O: Sink>(
     ensures taken { (edges : List ABorn) → AreTallied (length table.now) edges counts.now
         → Takes (O.told sink.old) (O.told sink.new) result (tally_text table.now edges) }
     ensures writes { O.faults sink.old ≤ O.faults sink.new }
-    ensures cause { HasReason why_not_printed (print_causes (WriteRose O.Sink sink.old sink.new) ⊥ blames_none) result }
+    ensures cause { HasReason why_not_printed (print_causes (WriteRose O.Sink sink.old sink.new) ⊥
+        blames_none) result }
 {
     let mut page = Page::new(alloc)?;
     put_lines(&mut page, sink, table.names(), counts)?;
@@ -152,7 +155,8 @@ pub fn tally<D: Disk, O: Sink>(
     ensures looks { OnlyLooks D.Disk disk.old disk.new }
     ensures later { D.faults disk.old ≤ D.faults disk.new }
     ensures writes { O.faults sink.old ≤ O.faults sink.new }
-    ensures cause { HasReason why_not_printed (print_causes (WriteRose O.Sink sink.old sink.new) (DiskRose D.Disk disk.old disk.new) (IsBlamed store.now D.tells (D.seen disk.old) 0 (length store.now.manifest.parts))) result }
+    ensures cause { HasReason why_not_printed (print_causes (WriteRose O.Sink sink.old sink.new) (DiskRose D.Disk disk.old disk.new)
+        (IsBlamed store.now D.tells (D.seen disk.old) 0 (length store.now.manifest.parts))) result }
 {
     let counts = count_labels(alloc, disk, store)?;
     print_lines(alloc, sink, &store.manifest().labels, &counts)

@@ -23,7 +23,8 @@ pub(crate) fn load<D: Disk>(
     ensures read { IfOk result (λ p. IsRead store.now i D.tells (D.seen disk.old (part_file store.now.manifest i)) p.edges) }
     ensures looks { OnlyLooks D.Disk disk.old disk.new }
     ensures later { D.faults disk.old ≤ D.faults disk.new }
-    ensures cause { HasReason why_not_printed (on_disk D.Disk disk.old disk.new (λ file place kind. (file ≡ part_file store.now.manifest i)
+    ensures cause { HasReason why_not_printed (on_disk D.Disk disk.old disk.new
+        (λ file place kind. (file ≡ part_file store.now.manifest i)
         × (IsTrue D.tells → IsRefused store.now i (D.seen disk.old file) place kind))) result }
 {
     match store.load(alloc, disk, i) {

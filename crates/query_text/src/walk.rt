@@ -35,7 +35,8 @@ fn show_part<D: Disk, O: Sink>(
     ensures looks { OnlyLooks D.Disk disk.old disk.new }
     ensures later { D.faults disk.old ≤ D.faults disk.new }
     ensures writes { O.faults sink.old ≤ O.faults sink.new }
-    ensures cause { HasReason why_not_printed (print_causes (WriteRose O.Sink sink.old sink.new) (DiskRose D.Disk disk.old disk.new) (IsBlamed store.now D.tells (D.seen disk.old) i 1)) result }
+    ensures cause { HasReason why_not_printed (print_causes (WriteRose O.Sink sink.old sink.new) (DiskRose D.Disk disk.old disk.new)
+        (IsBlamed store.now D.tells (D.seen disk.old) i 1)) result }
 {
     let part = load(alloc, disk, store, i)?;
     let shown = show.put_edges(page, sink, &store.manifest().labels, part.edges())?;
@@ -62,7 +63,8 @@ fn show_each<D: Disk, O: Sink>(
     ensures looks { OnlyLooks D.Disk disk.old disk.new }
     ensures later { D.faults disk.old ≤ D.faults disk.new }
     ensures writes { O.faults sink.old ≤ O.faults sink.new }
-    ensures cause { HasReason why_not_printed (print_causes (WriteRose O.Sink sink.old sink.new) (DiskRose D.Disk disk.old disk.new) (IsBlamed store.now D.tells (D.seen disk.old) first (end - first))) result }
+    ensures cause { HasReason why_not_printed (print_causes (WriteRose O.Sink sink.old sink.new) (DiskRose D.Disk disk.old disk.new)
+        (IsBlamed store.now D.tells (D.seen disk.old) first (end - first))) result }
 {
     let mut shown = 0;
     for i in first..end {
@@ -93,7 +95,8 @@ pub(crate) fn show_parts<D: Disk, O: Sink>(
     ensures looks { OnlyLooks D.Disk disk.old disk.new }
     ensures later { D.faults disk.old ≤ D.faults disk.new }
     ensures writes { O.faults sink.old ≤ O.faults sink.new }
-    ensures cause { HasReason why_not_printed (print_causes (WriteRose O.Sink sink.old sink.new) (DiskRose D.Disk disk.old disk.new) (IsBlamed store.now D.tells (D.seen disk.old) first (end - first))) result }
+    ensures cause { HasReason why_not_printed (print_causes (WriteRose O.Sink sink.old sink.new) (DiskRose D.Disk disk.old disk.new)
+        (IsBlamed store.now D.tells (D.seen disk.old) first (end - first))) result }
 {
     let mut page = Page::new(alloc)?;
     let shown = show_each(alloc, disk, store, first, end, show, &mut page, sink)?;

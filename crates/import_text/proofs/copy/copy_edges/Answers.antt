@@ -2,7 +2,10 @@ use Rattle.std.proofs.lemmas.Result.{err_from_is_err_and}
 use Rattle.disk_model.specs.Disk.{ShortenedIn}
 use Rattle.disk_model.specs.Run.{one_step, then_run}
 use Rattle.disk_model.specs.OneFile.{OnlyFile, only_refl, only_shortened, only_trans}
-use Rattle.std.proofs.Common.{arith}
+use Rattle.std.proofs.Common.{◌≡◌, [], ℕ, List, arith}
+use Rattle.faults.specs.Counts.{Rose}
+use Rattle.graph_words.specs.Text.{distinct}
+use Rattle.edge_text.specs.Feed.{IsFed}
 use Rattle.faults.proofs.Handed.{holds_more}
 use Rattle.import_text.proofs.CopyLemmas.{copy_more}
 use Rattle.import_text.proofs.copy.copy_edges.Goals as goal
@@ -18,10 +21,17 @@ copy_pieces-requires-clause-empty g c = λ tells. (c.in_ok-cut.ensures.cut tells
 
 pub returns-in_err-len-clause-cause : goal.returns-in_err-len-clause-cause
 returns-in_err-len-clause-cause g c =
+    let D = g.D.Disk in
+    let I = g.I.Inputs in
+    let reads : Type 0 = Rose (I.faults c.args.inputs.now c.args.name.now) (I.faults c.copy_pieces.new.inputs c.args.name.now) in
+    let part : Type 0 = Rose (D.faults c.cut.new.self) (D.faults c.copy_pieces.new.disk) in
+    let whole : Type 0 = Rose (D.faults c.args.disk.now) (D.faults c.copy_pieces.new.disk) in
+    let later : part → whole = λ rose. omega (arith, rose, c.cut.ensures.cause.later) in
+    let P = λ (names : List (List ℕ)). IsFed 0 names [] c.in_ok-tally.tally.reader [] in
+    let Q = λ (names : List (List ℕ)). c.args.table ≡ distinct names in
     let p = err_from_is_err_and c.from_residual-in_err-len.result c.from_residual-in_err-len.ensures.1 in
     rw (p.1, p.2)
-    (holds_more _ _ (copy_more _ _ _ _ _ _ (λ rose. omega (arith, rose, c.cut.ensures.cause.later)) (λ names s. c.in_ok-tally.ensures.names names s)) _
-    c.in_err-len.ensures.cause)
+    (holds_more _ _ (copy_more reads part whole P Q (I.told c.args.inputs.now c.args.name.now) later c.in_ok-tally.ensures.names) _ c.in_err-len.ensures.cause)
 
 pub returns-in_err-len-clause-any_moment : goal.returns-in_err-len-clause-any_moment
 returns-in_err-len-clause-any_moment g c =
