@@ -6,3 +6,9 @@ pub mod SimpleForms
 pub mod Ahead
 pub mod Assigned
 pub mod ParamForms
+pub mod Sequences
+pub mod Flags
+pub mod Parameters
+pub mod Functions
+pub mod Items
+pub mod Programs

@@ -14,6 +14,7 @@ use Rattle.c_tree.specs.Reading.{Stops, ReadsAt, RefusesAt}
 use Rattle.c_tree.proofs.Parts.{tok, seq, seq_joined, Turn, TurnIf, Least, Joined}
 use Rattle.c_tree.proofs.Places.{some_name, tok_at, named_at, named_refused_at, joined_at, first_refused_at, second_refused_at, turn_at, turn_if_at, turn_if_refused_at}
 use Rattle.c_tree.proofs.Choices.{Headed, not_first, unheaded_at, headed_parted, quiet_parted, whole_refused_at, behind_single_at, behind_single_refused_at, behind_tok_at, behind_tok_refused_at}
+use Rattle.c_parser.specs.Bases.{base_of}
 use Rattle.c_parser.proofs.Vars.{is_base, base_kind, base_is, base_single, base_at, is_name, name_no_star}
 
 -- ---- a parameter
@@ -55,6 +56,12 @@ param_head p = (Some (base_kind p.base), ((starred_name (p.stars, p.name)).kinds
 
 pub param_least : Least param_said
 param_least = record { tree = param_of (base.Int, (0, some_name)); flat = refl; nearest = refl }
+
+pub no_base : (a : Kind) → base_of a ≡ None → is_base a ≡ false
+no_base (Some k.Int) e = absurd (cc)
+no_base (Some k.Char) e = absurd (cc)
+no_base (Some k.Void) e = absurd (cc)
+no_base _ e = refl
 
 pub no_param_at : (s : Source) (at room : ℕ) → is_base (kind_at s.tokens at) ≡ false → RefusesAt param_said s at room at Unexpected
 no_param_at s at room fails = unheaded_at param_said is_base param_head param_least s at room fails

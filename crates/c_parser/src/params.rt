@@ -1,5 +1,5 @@
 //! Parameters of functions.
-ghost use Rattle.std.specs.Prelude.{◌≡◌, ◌≤◌, ◌+◌, length};
+ghost use Rattle.std.specs.Prelude.{◌≡◌, ◌≤◌, ◌+◌, ℕ, length};
 ghost use Rattle.c_tree.specs.Grammar.{param_said, more_params};
 ghost use Rattle.c_tree.specs.Reading.{Answers};
 ghost use Rattle.c_tree.specs.Tokens.{source};
@@ -11,15 +11,16 @@ use c_tree::{Nodes, Param, ReadFault, is_at, look, name_at, unexpected};
 use std::alloc::Global;
 
 /// Reads parameters, up to and with the closing bracket. `()` and `(void)` have none.
+///
+/// Parameters open no level, so they are read in whatever room is left.
 pub(crate) fn read_params(
     alloc: Global,
     bytes: &[u8],
     tokens: &[Token],
     at: usize,
-    room: usize,
 ) -> Result<(Nodes<Param>, usize), ReadFault>
     requires { at ≤ length tokens.now }
-    ensures { AnswersFlagged params_of (source bytes.now tokens.now) at room result }
+    ensures { (room : ℕ) → AnswersFlagged params_of (source bytes.now tokens.now) at room result }
 {
     if is_at(tokens, at, TokenKind::CloseParen) {
         return Ok((Nodes::new(alloc), at + 1));
@@ -27,8 +28,8 @@ pub(crate) fn read_params(
     if is_at(tokens, at, TokenKind::Void) && is_at(tokens, at + 1, TokenKind::CloseParen) {
         return Ok((Nodes::new(alloc), at + 2));
     }
-    let (first, next) = read_param(alloc, bytes, tokens, at, room)?;
-    let (more, after) = read_more_params(alloc, bytes, tokens, next, room)?;
+    let (first, next) = read_param(alloc, bytes, tokens, at)?;
+    let (more, after) = read_more_params(alloc, bytes, tokens, next)?;
     let mut params = Nodes::new(alloc);
     params.push(first)?;
     params.append(more)?;
@@ -41,10 +42,9 @@ fn read_more_params(
     bytes: &[u8],
     tokens: &[Token],
     at: usize,
-    room: usize,
 ) -> Result<(Nodes<Param>, usize), ReadFault>
     requires { at ≤ length tokens.now }
-    ensures { Answers more_params (source bytes.now tokens.now) at room result }
+    ensures { (room : ℕ) → Answers more_params (source bytes.now tokens.now) at room result }
 {
     let mut params = Nodes::new(alloc);
     let mut next = at;
@@ -55,21 +55,21 @@ fn read_more_params(
         if !is_at(tokens, next, TokenKind::Comma) {
             return Err(unexpected(next));
         }
-        let (param, after) = read_param(alloc, bytes, tokens, next + 1, room)?;
+        let (param, after) = read_param(alloc, bytes, tokens, next + 1)?;
         params.push(param)?;
         next = after;
     }
 }
 
-fn read_param(
+/// Reads a base type, its stars and a name.
+pub(crate) fn read_param(
     alloc: Global,
     bytes: &[u8],
     tokens: &[Token],
     at: usize,
-    room: usize,
 ) -> Result<(Param, usize), ReadFault>
     requires { at ≤ length tokens.now }
-    ensures { Answers param_said (source bytes.now tokens.now) at room result }
+    ensures { (room : ℕ) → Answers param_said (source bytes.now tokens.now) at room result }
 {
     match base_of(look(tokens, at)) {
         Some(base) => {

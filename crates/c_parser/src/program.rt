@@ -1,5 +1,5 @@
 //! Programs.
-ghost use Rattle.std.specs.Prelude.{IfOk, IfErr};
+ghost use Rattle.std.specs.Prelude.{◌≤◌, IfOk, IfErr};
 ghost use Rattle.c_tree.specs.Tokens.{source};
 ghost use Rattle.c_parser.specs.Program.{IsOnlyProgram, IsFaultOf, AnswersProgram};
 
@@ -33,6 +33,7 @@ fn read_program(
     tokens: &[Token],
     room: usize,
 ) -> Result<Nodes<Item>, ReadFault>
+    requires { 1 ≤ room }
     ensures { AnswersProgram (source bytes.now tokens.now) room result }
 {
     let mut items = Nodes::new(alloc);

@@ -1,0 +1,17 @@
+use Rattle.std.proofs.Common.{sym, ◌∙◌, ap, subst, arith}
+use Rattle.c_tree.specs.Tokens.{source}
+use Rattle.c_parser.specs.Program.{written_said}
+use Rattle.c_parser.proofs.Programs.{none_so_far, one_further, all_read, handed_up, item_advances}
+use Rattle.c_parser.proofs.program.read_program.Goals as goal
+
+pub loop-next-init : goal.loop-next-init
+loop-next-init c = record {
+  inside = omega arith;
+  so_far = none_so_far (source c.args.bytes.now c.args.tokens.now) c.args.room c.new-items.result c.new-items.ensures;
+}
+
+pub returns-in_err-item : goal.returns-in_err-item
+returns-in_err-item c =
+    let s = source c.args.bytes.now c.args.tokens.now in
+    handed_up s c.args.room c.loop-next.next c.loop-next.items c.loop-next.invariant.so_far c.in-loop-next.inside
+    c.in_err-item.field-0.0 c.in_err-item.ensures c.from_residual.result c.from_residual.ensures.1
