@@ -263,6 +263,7 @@ assign_place_refused s at room token why e r =
   where
     n : (rest : List Kind) × (from s.tokens at ≡ kind_at s.tokens at ∷ rest)
     n = from_some s at
+
     decided : kind_at s.tokens at ≢ Some k.Name → (more : List Kind) → is_ahead (r.front ++ r.bad ∷ more) ≡ true
     decided h more =
         let f = front_head r.front r.bad r.refuses.rest (kind_at s.tokens at) n.0 more (sym r.refuses.stands ∙ n.1) in

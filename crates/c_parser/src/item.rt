@@ -11,7 +11,10 @@ use crate::declaration::{base_of, read_more_vars, read_stars, read_value};
 use crate::params::read_params;
 use crate::stmt::read_stmts;
 use c_lexer::{Token, TokenKind};
-use c_tree::{Declaration, Function, Item, Nodes, Param, ReadFault, Stmt, Var, is_at, look, name_at, too_deep, unexpected};
+use c_tree::{
+    Declaration, Function, Item, Nodes, Param, ReadFault, Stmt, Var, is_at, look, name_at,
+    too_deep, unexpected,
+};
 use std::alloc::Global;
 
 /// Reads a function, or a declaration of global variables.

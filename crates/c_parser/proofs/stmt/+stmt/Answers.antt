@@ -138,8 +138,8 @@ read_branches-returns-then-not-is_at g c =
     subst (λ b. ReadsAt branches_read s c.args.at c.args.room (record { body = b; other = None }) next) (sym c.in_ok-body-2.ensures)
     (branches_at s c.args.at next c.args.room c.in_ok-body.body c.in_ok-body.ensures (not_else (kind_at c.args.tokens.now next) (λ h. not_from_false (kind_at c.args.tokens.now next ≡ Some k.Else) c.is_at.result c.is_at.ensures c.if-not-is_at.true h)))
 
-pub read_branches-read_stmt-requires : goal.read_branches-read_stmt-requires
-read_branches-read_stmt-requires g c = (search rules, (from_more (source c.args.bytes.now c.args.tokens.now) c.in_ok-body.next k.Else (c.is_at.ensures.0 c.if-not-is_at.false)).1)
+pub read_branches-read_stmt-requires-2 : goal.read_branches-read_stmt-requires-2
+read_branches-read_stmt-requires-2 g c = (search rules, (from_more (source c.args.bytes.now c.args.tokens.now) c.in_ok-body.next k.Else (c.is_at.ensures.0 c.if-not-is_at.false)).1)
 
 pub read_branches-returns-in_err-other : goal.read_branches-returns-in_err-other
 read_branches-returns-in_err-other g c =
@@ -153,8 +153,8 @@ pub read_branches-returns : goal.read_branches-returns
 read_branches-returns g c =
     let s = source c.args.bytes.now c.args.tokens.now in
     let next = c.in_ok-body.next in
-    subst (λ b. ReadsAt branches_read s c.args.at c.args.room (record { body = b; other = Some c.in_ok-other-2.field-0 }) c.in_ok-other.after) (sym c.in_ok-body-2.ensures)
-    (subst (λ o. ReadsAt branches_read s c.args.at c.args.room (record { body = c.in_ok-body.body; other = Some o }) c.in_ok-other.after) (sym c.in_ok-other-2.ensures)
+    subst (λ b. ReadsAt branches_read s c.args.at c.args.room (record { body = b; other = Some c.in_ok-new.field-0 }) c.in_ok-other.after) (sym c.in_ok-body-2.ensures)
+    (subst (λ o. ReadsAt branches_read s c.args.at c.args.room (record { body = c.in_ok-body.body; other = Some o }) c.in_ok-other.after) (sym c.in_ok-new.ensures)
     (branches_else_at s c.args.at next c.in_ok-other.after c.args.room c.in_ok-body.body c.in_ok-other.other c.in_ok-body.ensures (c.is_at.ensures.0 c.if-not-is_at.false) c.in_ok-other.ensures))
 
 -- ---- `while`
