@@ -72,6 +72,10 @@ module _ {X T : Type 0} (sx : X → Said) (st : T → Said) (C : X → T) (q : L
     place = place;
   }
 
+  -- the same of a refusal that is at hand
+  pub ahead_refused : (s : Source) (at room token : ℕ) (why : Wrong) (r : RefusesAt sx s at room token why) → ((more : List Kind) → q (r.front ++ r.bad ∷ more) ≡ true) → RefusesAt st s at room token why
+  ahead_refused s at room token why r decided = ahead_refuses s at room token why r.front r.bad r.refuses r.place decided
+
 -- what is read is not refused
 pub not_both : {T : Type 0} (said : T → Said) (s : Source) (at room next token : ℕ) (why : Wrong) (t : T) → ReadsAt said s at room t next → RefusesAt said s at room token why → ⊥
 not_both said s at room next token why t r z =

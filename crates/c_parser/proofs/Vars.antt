@@ -278,7 +278,7 @@ var_least = record { tree = var_of (0, (some_name, None)); flat = refl; nearest 
 abbrev pub listed_vars : Var × List Var → Said
 listed_vars = seq var_said more_vars
 
-more_head : (xs : List Var) → Headed is_more_var (more_vars xs)
+pub more_head : (xs : List Var) → Headed is_more_var (more_vars xs)
 more_head [] = (Some k.Semicolon, ([], refl, refl))
 more_head (x ∷ xs) = (Some k.Comma, ((listed_vars (x, xs)).kinds, refl, refl))
 
