@@ -4,7 +4,7 @@ use Rattle.c_tree.specs.declared.fault.Wrong.{Wrong}
 use Rattle.c_tree.specs.declared.fault.Wrong.TheVariants.{Unexpected, TooDeep}
 use Rattle.c_tree.specs.Said.{Kind, Said}
 use Rattle.c_tree.specs.Tokens.{Source, name_of}
-use Rattle.c_tree.specs.Reading.{Placed, Stops, Only, Begins, Counts, GoesOn, ReadsAt, RefusesAt, from}
+use Rattle.c_tree.specs.Reading.{Placed, Stops, Only, Begins, Counts, GoesOn, Refuses, ReadsAt, RefusesAt, from}
 use Rattle.c_tree.proofs.Parts.{turned_same}
 
 pub record Ahead {X T : Type 0} (sx : X → Said) (st : T → Said) (C : X → T) (q : List Kind → Bool) : Type 0 where
@@ -55,24 +55,26 @@ module _ {X T : Type 0} (sx : X → Said) (st : T → Said) (C : X → T) (q : L
   ahead_goes_on TooDeep front g = (g.0, ahead_begins g.0 front g.1)
 
   -- where the test passes whatever stands behind the refused token
+  pub ahead_refuses : (s : Source) (at room token : ℕ) (why : Wrong) (front : List Kind) (bad : Kind) → Refuses sx (from s.tokens at) room front bad why → token ≡ at + length front → ((more : List Kind) → q (front ++ bad ∷ more) ≡ true) → RefusesAt st s at room token why
+  ahead_refuses s at room token why front bad r place decided = record {
+    front = front;
+    bad = bad;
+    refuses = record {
+      rest = r.rest;
+      stands = r.stands;
+      some = ahead_begins room front r.some;
+      none = λ t rest more e h n c.
+          let y = ahead.turn t rest (ap q e ∙ decided more) n in
+          let is : st t ≡ sx y.0 = ap st y.1 ∙ ahead.same y.0 in
+          r.none y.0 rest more (subst (λ w. w.kinds ++ rest ≡ front ++ bad ∷ more) is e) (subst (λ w. Stops w rest) is h) (subst (λ w. w.strays ≡ 0) is n) (subst (λ w. Counts why room w.levels) is c);
+      deep = ahead_goes_on why (front ++ bad ∷ []) r.deep;
+    };
+    place = place;
+  }
+
+  -- the same of a refusal that is at hand
   pub ahead_refused : (s : Source) (at room token : ℕ) (why : Wrong) (r : RefusesAt sx s at room token why) → ((more : List Kind) → q (r.front ++ r.bad ∷ more) ≡ true) → RefusesAt st s at room token why
-  ahead_refused s at room token why r decided =
-      let z = r.refuses in
-      record {
-        front = r.front;
-        bad = r.bad;
-        refuses = record {
-          rest = z.rest;
-          stands = z.stands;
-          some = ahead_begins room r.front z.some;
-          none = λ t rest more e h n c.
-              let y = ahead.turn t rest (ap q e ∙ decided more) n in
-              let is : st t ≡ sx y.0 = ap st y.1 ∙ ahead.same y.0 in
-              z.none y.0 rest more (subst (λ w. w.kinds ++ rest ≡ r.front ++ r.bad ∷ more) is e) (subst (λ w. Stops w rest) is h) (subst (λ w. w.strays ≡ 0) is n) (subst (λ w. Counts why room w.levels) is c);
-          deep = ahead_goes_on why (r.front ++ r.bad ∷ []) z.deep;
-        };
-        place = r.place;
-      }
+  ahead_refused s at room token why r decided = ahead_refuses s at room token why r.front r.bad r.refuses r.place decided
 
 -- what is read is not refused
 pub not_both : {T : Type 0} (said : T → Said) (s : Source) (at room next token : ℕ) (why : Wrong) (t : T) → ReadsAt said s at room t next → RefusesAt said s at room token why → ⊥

@@ -28,8 +28,9 @@ use Rattle.c_expressions.proofs.Forms.{place_name_at, function_parts, function_o
 use Rattle.c_parser.proofs.Stmts.{first_of, first_passes}
 use Rattle.c_parser.proofs.SimpleForms.{semicolon_least, ended, ended_least, ended_at, ended_refused_at, unended_at}
 use Rattle.c_parser.proofs.Vars.{is_base, base_kind, base_is, base_single}
-use Rattle.c_parser.proofs.Ahead.{Ahead, ahead_at, ahead_refused, not_both}
-use Rattle.c_parser.specs.Starts.{is_assigned}
+use Rattle.c_parser.proofs.Ahead.{Ahead, ahead_at, ahead_refuses, not_both}
+use Rattle.c_parser.specs.Bases.{base_of}
+use Rattle.c_parser.specs.Starts.{is_assigned, is_flat}
 
 -- ---- a call of a function
 abbrev pub function_stmt_parts : (Name × (Unit {0} × List Expr)) × Unit {0} → Said
@@ -210,8 +211,11 @@ assign_at s at room next after p v r e t c =
 -- what stands behind the place, refused
 assign_behind : (s : Source) (at room next token : ℕ) (why : Wrong) (p : Place) → ReadsAt place_said s at room p next → RefusesAt assign_tail s next room token why → RefusesAt stmt_said s at room token why
 assign_behind s at room next token why p r t =
-    ahead_refused assign_parts stmt_said assign_of is_ahead assign_ahead s at room token why
-    (second_refused_at place_said assign_tail assign_parts assign_joined s at next room p token why r t)
+    let pr = r.place in let pt = t.place in
+    let n = length-append (place_said p).kinds t.front in
+    ahead_refuses assign_parts stmt_said assign_of is_ahead assign_ahead s at room token why ((place_said p).kinds ++ t.front) t.bad
+    (joined_refused_second place_said assign_tail assign_parts assign_joined (from s.tokens at) (from s.tokens next) room p t.front t.bad why r.reads t.refuses)
+    (omega arith)
     (λ more. ap is_ahead (append_assoc (place_said p).kinds t.front (t.bad ∷ more)) ∙ place_ahead p (t.front ++ t.bad ∷ more) (stops_same (place_said p) t.front t.bad t.refuses.rest more (subst (Stops (place_said p)) t.refuses.stands r.reads.stops)))
 
 pub assign_missing : (s : Source) (at room next : ℕ) (p : Place) → ReadsAt place_said s at room p next → kind_at s.tokens next ≢ Some k.Assign → RefusesAt stmt_said s at room next Unexpected
@@ -253,12 +257,32 @@ pub assign_place_refused : (s : Source) (at room token : ℕ) (why : Wrong) → 
 assign_place_refused s at room token why e r =
     elim (is_name_or (kind_at s.tokens at)) as (λ _. RefusesAt stmt_said s at room token why) [
       | inl h ↦ absurd (not_both place_said s at room (at + 1) token why (place.Name (name_of s at)) (place_name_at s at room h (name_second (kind_at s.tokens (at + 1)) (subst (λ a. is_assigned a (kind_at s.tokens (at + 1)) ≡ true) h e))) r)
-      | inr h ↦ ahead_refused assign_parts stmt_said assign_of is_ahead assign_ahead s at room token why (first_refused_at place_said assign_tail assign_parts assign_joined s at room token why r) (decided h)
+      | inr h ↦ ahead_refuses assign_parts stmt_said assign_of is_ahead assign_ahead s at room token why r.front r.bad
+          (joined_refused_first place_said assign_tail assign_parts assign_joined (from s.tokens at) room r.front r.bad why r.refuses) r.place (decided h)
     ]
   where
     n : (rest : List Kind) × (from s.tokens at ≡ kind_at s.tokens at ∷ rest)
     n = from_some s at
+
     decided : kind_at s.tokens at ≢ Some k.Name → (more : List Kind) → is_ahead (r.front ++ r.bad ∷ more) ≡ true
     decided h more =
         let f = front_head r.front r.bad r.refuses.rest (kind_at s.tokens at) n.0 more (sym r.refuses.stands ∙ n.1) in
         ap is_ahead f.1 ∙ ahead_by_first (kind_at s.tokens at) h (kind_at s.tokens (at + 1)) e f.0
+
+-- what begins no other statement without statements in it begins an assignment
+pub name_assigned : (b : Kind) → b ≢ Some k.OpenParen → is_assigned (Some k.Name) b ≡ true
+name_assigned (Some k.OpenParen) h = absurd (h refl)
+name_assigned _ h = refl
+
+pub assigned_here : (a b : Kind) → is_flat a ≡ true → base_of a ≡ None → a ≢ Some k.Return → a ≢ Some k.Malloc → a ≢ Some k.Name → is_assigned a b ≡ true
+assigned_here (Some k.Semicolon) b flat no_base no_return no_malloc no_name = absurd (cc)
+assigned_here (Some k.OpenBrace) b flat no_base no_return no_malloc no_name = absurd (cc)
+assigned_here (Some k.If) b flat no_base no_return no_malloc no_name = absurd (cc)
+assigned_here (Some k.While) b flat no_base no_return no_malloc no_name = absurd (cc)
+assigned_here (Some k.Int) b flat no_base no_return no_malloc no_name = absurd (cc)
+assigned_here (Some k.Char) b flat no_base no_return no_malloc no_name = absurd (cc)
+assigned_here (Some k.Void) b flat no_base no_return no_malloc no_name = absurd (cc)
+assigned_here (Some k.Return) b flat no_base no_return no_malloc no_name = absurd (no_return refl)
+assigned_here (Some k.Malloc) b flat no_base no_return no_malloc no_name = absurd (no_malloc refl)
+assigned_here (Some k.Name) b flat no_base no_return no_malloc no_name = absurd (no_name refl)
+assigned_here _ b flat no_base no_return no_malloc no_name = refl

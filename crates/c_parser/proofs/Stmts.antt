@@ -18,6 +18,7 @@ use Rattle.c_tree.proofs.Layers.{StmtLayer, stmt_layer, stmt_made, stmt_made_sai
 use Rattle.c_tree.proofs.Parts.{Least}
 use Rattle.c_tree.proofs.Choices.{Headed, headed_longer, head_passes, or_both}
 use Rattle.c_expressions.proofs.Heads.{is_place_start, is_call_start, place_head, call_head}
+use Rattle.c_parser.specs.Starts.{is_flat}
 use Rattle.c_parser.proofs.Vars.{is_base, base_kind, base_is, base_single}
 
 -- ---- tests of a first token
@@ -306,3 +307,10 @@ begins_base (Some k.Int) h x e = begins_int x e
 begins_base (Some k.Char) h x e = begins_char x e
 begins_base (Some k.Void) h x e = begins_void x e
 begins_base _ h x e = absurd (cc)
+
+pub flat_here : (a : Kind) → a ≢ Some k.Semicolon → a ≢ Some k.OpenBrace → a ≢ Some k.If → a ≢ Some k.While → is_flat a ≡ true
+flat_here (Some k.Semicolon) no_empty no_block no_if no_while = absurd (no_empty refl)
+flat_here (Some k.OpenBrace) no_empty no_block no_if no_while = absurd (no_block refl)
+flat_here (Some k.If) no_empty no_block no_if no_while = absurd (no_if refl)
+flat_here (Some k.While) no_empty no_block no_if no_while = absurd (no_while refl)
+flat_here _ no_empty no_block no_if no_while = refl

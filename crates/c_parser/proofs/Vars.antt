@@ -144,6 +144,26 @@ pub not_star : (a : Kind) → a ≢ Some k.Star → is_star a ≡ false
 not_star (Some k.Star) h = absurd (h refl)
 not_star _ h = refl
 
+-- stars that were counted, and those that stand behind them
+pub stars_started : (s : Source) (at room m n : ℕ) → ReadsAt stars s (at + 0) room m n → ReadsAt stars s at room (0 + m) n
+stars_started s at room m n r =
+    let here : at + 0 ≡ at = omega arith in
+    let all : m ≡ 0 + m = omega arith in
+    subst (λ x. ReadsAt stars s at room x n) all (subst (λ x. ReadsAt stars s x room m n) here r)
+
+pub stars_counted : (s : Source) (at room count m n : ℕ) → kind_at s.tokens (at + count) ≡ Some k.Star → ((m n : ℕ) → ReadsAt stars s (at + count) room m n → ReadsAt stars s at room (count + m) n) → ReadsAt stars s (at + (count + 1)) room m n → ReadsAt stars s at room (count + 1 + m) n
+stars_counted s at room count m n e before r =
+    let next : at + (count + 1) ≡ at + count + 1 = omega arith in
+    let all : count + suc m ≡ count + 1 + m = omega arith in
+    let more = stars_more_at s (at + count) n room m e (subst (λ x. ReadsAt stars s x room m n) next r) in
+    subst (λ x. ReadsAt stars s at room x n) all (before (suc m) n more)
+
+pub stars_ended : (s : Source) (at room count : ℕ) → at + count ≤ length s.tokens → kind_at s.tokens (at + count) ≢ Some k.Star → ((m n : ℕ) → ReadsAt stars s (at + count) room m n → ReadsAt stars s at room (count + m) n) → ReadsAt stars s at room count (at + count)
+stars_ended s at room count inside other before =
+    let all : count + 0 ≡ count = omega arith in
+    let none = stars_end_at s (at + count) room inside (not_star (kind_at s.tokens (at + count)) other) in
+    subst (λ x. ReadsAt stars s at room x (at + count)) all (before 0 (at + count) none)
+
 -- ---- the value of a variable
 abbrev pub value_some_of : Unit {0} × Expr → Option Expr
 value_some_of x = Some x.1
@@ -258,7 +278,7 @@ var_least = record { tree = var_of (0, (some_name, None)); flat = refl; nearest 
 abbrev pub listed_vars : Var × List Var → Said
 listed_vars = seq var_said more_vars
 
-more_head : (xs : List Var) → Headed is_more_var (more_vars xs)
+pub more_head : (xs : List Var) → Headed is_more_var (more_vars xs)
 more_head [] = (Some k.Semicolon, ([], refl, refl))
 more_head (x ∷ xs) = (Some k.Comma, ((listed_vars (x, xs)).kinds, refl, refl))
 

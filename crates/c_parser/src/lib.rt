@@ -11,8 +11,8 @@ mod simple;
 mod stmt;
 
 pub use c_tree::{
-    AddOp, Added, Base, Call, CompareOp, Compared, Declaration, Expr, Function, Item, Name, NameBytes, Nodes, Param,
-    Place, Pointer, Program, Stmt, Sum, Tok, Unary, Var,
+    AddOp, Added, Base, Call, CompareOp, Compared, Declaration, Expr, Function, Item, Name,
+    NameBytes, Nodes, Param, Place, Pointer, Program, Stmt, Sum, Tok, Unary, Var,
 };
 pub use fault::ParseFault;
 pub use program::parse;

@@ -144,7 +144,25 @@ pub(crate) fn read_flat(
     if is_at(tokens, at, TokenKind::Malloc) {
         return read_malloc_call(alloc, bytes, tokens, at, room);
     }
-    if is_at(tokens, at, TokenKind::Name) && is_at(tokens, at + 1, TokenKind::OpenParen) {
+    if is_at(tokens, at, TokenKind::Name) {
+        return read_named(alloc, bytes, tokens, at, room);
+    }
+    read_assign(alloc, bytes, tokens, at, room)
+}
+
+/// Reads a call of a function or an assignment, where both begin with a name.
+fn read_named(
+    alloc: Global,
+    bytes: &[u8],
+    tokens: &[Token],
+    at: usize,
+    room: usize,
+) -> Result<(Stmt, usize), ReadFault>
+    requires within { at ≤ length tokens.now }
+    requires here { kind_at tokens.now at ≡ Some k.Name }
+    ensures { Answers stmt_said (source bytes.now tokens.now) at room result }
+{
+    if is_at(tokens, at + 1, TokenKind::OpenParen) {
         return read_function_call(alloc, bytes, tokens, at, room);
     }
     read_assign(alloc, bytes, tokens, at, room)

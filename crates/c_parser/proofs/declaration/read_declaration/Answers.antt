@@ -23,3 +23,12 @@ returns-in_err-more c =
     handed_on more_vars declaration_said s c.in_ok-first.next c.args.room c.args.at c.args.room
     (λ token why r. declared_rest_refused s c.args.at c.in_ok-first.next c.args.room token why c.args.base c.in_ok-first.first (base_kind_is (kind_at c.args.tokens.now c.args.at) c.args.base c.requires.here) c.in_ok-first.ensures r)
     c.in_err-more.field-0.0 c.in_err-more.ensures c.from_residual-in_err-more.result c.from_residual-in_err-more.ensures.1
+
+pub returns : goal.returns
+returns c =
+    let s = source c.args.bytes.now c.args.tokens.now in
+    let first = c.in_ok-first.first in
+    let more = c.in_ok-more.more in
+    let vars = c.in_ok-append.ensures ∙ ap (λ w. w ++ more) (c.in_ok-push.ensures.ok ∙ ap (λ w. w ++ first ∷ []) c.new-vars.ensures) in
+    subst (λ w. ReadsAt declaration_said s c.args.at c.args.room (record { base = c.args.base; vars = w }) c.in_ok-more.after) (sym vars)
+    (declared_at s c.args.at c.in_ok-first.next c.in_ok-more.after c.args.room c.args.base first more (base_kind_is (kind_at c.args.tokens.now c.args.at) c.args.base c.requires.here) c.in_ok-first.ensures c.in_ok-more.ensures)

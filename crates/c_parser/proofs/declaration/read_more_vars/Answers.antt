@@ -34,25 +34,25 @@ returns-then-not-is_at c =
     refused more_vars s c.args.at c.args.room next Unexpected
     (c.loop-alloc.invariant.refuses next Unexpected (more_missing_at s next c.args.room
     (λ h. not_from_false (kind ≡ Some k.Semicolon) c.is_at.result c.is_at.ensures c.if-is_at.false h)
-    (λ h. not_from_false (kind ≡ Some k.Comma) c.is_at-2.result c.is_at-2.ensures c.if-not-is_at.true h)))
+    (λ h. not_from_false (kind ≡ Some k.Comma) c.is_at-in-loop-alloc.result c.is_at-in-loop-alloc.ensures c.if-not-is_at.true h)))
     c.unexpected.result c.unexpected.ensures
 
 pub read_var-requires : goal.read_var-requires
-read_var-requires c = (from_more (source c.args.bytes.now c.args.tokens.now) c.loop-alloc.next k.Comma (c.is_at-2.ensures.0 c.if-not-is_at.false)).1
+read_var-requires c = (from_more (source c.args.bytes.now c.args.tokens.now) c.loop-alloc.next k.Comma (c.is_at-in-loop-alloc.ensures.0 c.if-not-is_at.false)).1
 
 pub returns-in_err-var : goal.returns-in_err-var
 returns-in_err-var c =
     let s = source c.args.bytes.now c.args.tokens.now in
     let next = c.loop-alloc.next in
     handed_on var_said more_vars s (next + 1) c.args.room c.args.at c.args.room
-    (λ token why r. c.loop-alloc.invariant.refuses token why (more_first_refused s next c.args.room token why (c.is_at-2.ensures.0 c.if-not-is_at.false) r))
+    (λ token why r. c.loop-alloc.invariant.refuses token why (more_first_refused s next c.args.room token why (c.is_at-in-loop-alloc.ensures.0 c.if-not-is_at.false) r))
     c.in_err-var.field-0.0 c.in_err-var.ensures c.from_residual.result c.from_residual.ensures.1
 
 pub loop-alloc-preserved : goal.loop-alloc-preserved
 loop-alloc-preserved c =
     let s = source c.args.bytes.now c.args.tokens.now in
     let next = c.loop-alloc.next in
-    let comma : kind_at c.args.tokens.now next ≡ Some k.Comma = c.is_at-2.ensures.0 c.if-not-is_at.false in
+    let comma : kind_at c.args.tokens.now next ≡ Some k.Comma = c.is_at-in-loop-alloc.ensures.0 c.if-not-is_at.false in
     let r = c.in_ok-var.ensures in
     record {
       inside = r.inside;
@@ -67,5 +67,5 @@ loop-alloc-smaller c =
     let r = c.in_ok-var.ensures in
     let place = r.place in
     let inside = r.inside in
-    let more = (from_more (source c.args.bytes.now c.args.tokens.now) c.loop-alloc.next k.Comma (c.is_at-2.ensures.0 c.if-not-is_at.false)).1 in
+    let more = (from_more (source c.args.bytes.now c.args.tokens.now) c.loop-alloc.next k.Comma (c.is_at-in-loop-alloc.ensures.0 c.if-not-is_at.false)).1 in
     omega arith

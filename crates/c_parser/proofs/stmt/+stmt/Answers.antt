@@ -11,10 +11,24 @@ use Rattle.c_tree.proofs.Handed.{handed_on, refused}
 use Rattle.c_parser.specs.Branches.{branches_read, block_of}
 use Rattle.c_parser.specs.Starts.{is_flat}
 use Rattle.c_parser.proofs.Blocks.{not_else, brace_at, item_at, item_refused, later_refused, stmt_advances, empty_at, block_at, block_refused, block_deep, branches_at, branches_else_at, body_refused, other_refused, if_at, if_condition_refused, if_branches_refused, if_deep, while_at, while_condition_refused, while_body_refused, while_deep}
+use Rattle.c_parser.proofs.Stmts.{flat_here}
 use Rattle.c_parser.proofs.stmt.+stmt.Goals as goal
 
 pub read_stmt-returns-then-is_at : goal.read_stmt-returns-then-is_at
 read_stmt-returns-then-is_at g c = empty_at (source c.args.bytes.now c.args.tokens.now) c.args.at c.args.room (c.is_at.ensures.0 c.if-is_at.true)
+
+pub read_stmt-read_flat-requires : goal.read_stmt-read_flat-requires
+read_stmt-read_flat-requires g c =
+    let a = kind_at c.args.tokens.now c.args.at in
+    record {
+      within = c.requires;
+      here =
+          flat_here a
+          (λ h. not_from_false (a ≡ Some k.Semicolon) c.is_at.result c.is_at.ensures c.if-is_at.false h)
+          (λ h. not_from_false (a ≡ Some k.OpenBrace) c.is_at-2.result c.is_at-2.ensures c.if-is_at-2.false h)
+          (λ h. not_from_false (a ≡ Some k.If) c.is_at-3.result c.is_at-3.ensures c.if-is_at-3.false h)
+          (λ h. not_from_false (a ≡ Some k.While) c.is_at-4.result c.is_at-4.ensures c.if-is_at-4.false h);
+    }
 
 -- ---- blocks
 pub read_block-returns-then-room-eq0 : goal.read_block-returns-then-room-eq0
@@ -37,8 +51,8 @@ read_block-returns g c =
     block_at (source c.args.bytes.now c.args.tokens.now) c.args.at c.args.room c.in_ok-stmts.next c.in_ok-stmts.stmts c.requires.here c.if-room-eq0.false c.in_ok-stmts.ensures
 
 -- ---- statements up to the brace
-pub read_stmts-loop-stmts-init : goal.read_stmts-loop-stmts-init
-read_stmts-loop-stmts-init g c =
+pub read_stmts-loop-alloc-init : goal.read_stmts-loop-alloc-init
+read_stmts-loop-alloc-init g c =
     let s = source c.args.bytes.now c.args.tokens.now in
     record {
       inside = c.requires;
@@ -49,36 +63,36 @@ read_stmts-loop-stmts-init g c =
 pub read_stmts-returns-then-is_at : goal.read_stmts-returns-then-is_at
 read_stmts-returns-then-is_at g c =
     let s = source c.args.bytes.now c.args.tokens.now in
-    let next = c.loop-stmts.next in
-    let all = c.loop-stmts.invariant.reads [] (next + 1) (brace_at s next c.args.room (c.is_at.ensures.0 c.if-is_at.true)) in
-    subst (λ xs. ReadsAt block_of s c.args.at c.args.room xs (next + 1)) (append-nil c.loop-stmts.stmts) all
+    let next = c.loop-alloc.next in
+    let all = c.loop-alloc.invariant.reads [] (next + 1) (brace_at s next c.args.room (c.is_at.ensures.0 c.if-is_at.true)) in
+    subst (λ xs. ReadsAt block_of s c.args.at c.args.room xs (next + 1)) (append-nil c.loop-alloc.stmts) all
 
 pub read_stmts-returns-in_err-stmt : goal.read_stmts-returns-in_err-stmt
 read_stmts-returns-in_err-stmt g c =
     let s = source c.args.bytes.now c.args.tokens.now in
-    let next = c.loop-stmts.next in
+    let next = c.loop-alloc.next in
     handed_on stmt_said block_of s next c.args.room c.args.at c.args.room
-    (λ token why r. c.loop-stmts.invariant.refuses token why (item_refused s next c.args.room token why (λ h. not_from_false (kind_at c.args.tokens.now next ≡ Some k.CloseBrace) c.is_at.result c.is_at.ensures c.if-is_at.false h) r))
+    (λ token why r. c.loop-alloc.invariant.refuses token why (item_refused s next c.args.room token why (λ h. not_from_false (kind_at c.args.tokens.now next ≡ Some k.CloseBrace) c.is_at.result c.is_at.ensures c.if-is_at.false h) r))
     c.in_err-stmt.field-0.0 c.in_err-stmt.ensures c.from_residual.result c.from_residual.ensures.1
 
-pub read_stmts-loop-stmts-preserved : goal.read_stmts-loop-stmts-preserved
-read_stmts-loop-stmts-preserved g c =
+pub read_stmts-loop-alloc-preserved : goal.read_stmts-loop-alloc-preserved
+read_stmts-loop-alloc-preserved g c =
     let s = source c.args.bytes.now c.args.tokens.now in
-    let next = c.loop-stmts.next in
+    let next = c.loop-alloc.next in
     let r = c.in_ok-stmt.ensures in
     record {
       inside = r.inside;
       reads = λ xs n t.
-          let all = c.loop-stmts.invariant.reads (c.in_ok-stmt.stmt ∷ xs) n (item_at s next c.in_ok-stmt.after c.args.room c.in_ok-stmt.stmt r xs n t) in
-          subst (λ ys. ReadsAt block_of s c.args.at c.args.room ys n) (sym (append_assoc c.loop-stmts.stmts (c.in_ok-stmt.stmt ∷ []) xs) ∙ ap (λ ys. ys ++ xs) (sym c.in_ok-push.ensures.ok)) all;
-      refuses = λ token why t. c.loop-stmts.invariant.refuses token why (later_refused s next c.in_ok-stmt.after c.args.room c.in_ok-stmt.stmt (λ h. not_from_false (kind_at c.args.tokens.now next ≡ Some k.CloseBrace) c.is_at.result c.is_at.ensures c.if-is_at.false h) r token why t);
+          let all = c.loop-alloc.invariant.reads (c.in_ok-stmt.stmt ∷ xs) n (item_at s next c.in_ok-stmt.after c.args.room c.in_ok-stmt.stmt r xs n t) in
+          subst (λ ys. ReadsAt block_of s c.args.at c.args.room ys n) (sym (append_assoc c.loop-alloc.stmts (c.in_ok-stmt.stmt ∷ []) xs) ∙ ap (λ ys. ys ++ xs) (sym c.in_ok-push.ensures.ok)) all;
+      refuses = λ token why t. c.loop-alloc.invariant.refuses token why (later_refused s next c.in_ok-stmt.after c.args.room c.in_ok-stmt.stmt (λ h. not_from_false (kind_at c.args.tokens.now next ≡ Some k.CloseBrace) c.is_at.result c.is_at.ensures c.if-is_at.false h) r token why t);
     }
 
-pub read_stmts-loop-stmts-smaller : goal.read_stmts-loop-stmts-smaller
-read_stmts-loop-stmts-smaller g c =
+pub read_stmts-loop-alloc-smaller : goal.read_stmts-loop-alloc-smaller
+read_stmts-loop-alloc-smaller g c =
     let r = c.in_ok-stmt.ensures in
     let inside = r.inside in
-    let more = stmt_advances (source c.args.bytes.now c.args.tokens.now) c.loop-stmts.next c.in_ok-stmt.after c.args.room c.in_ok-stmt.stmt r in
+    let more = stmt_advances (source c.args.bytes.now c.args.tokens.now) c.loop-alloc.next c.in_ok-stmt.after c.args.room c.in_ok-stmt.stmt r in
     omega arith
 
 -- ---- `if`
@@ -124,8 +138,8 @@ read_branches-returns-then-not-is_at g c =
     subst (λ b. ReadsAt branches_read s c.args.at c.args.room (record { body = b; other = None }) next) (sym c.in_ok-body-2.ensures)
     (branches_at s c.args.at next c.args.room c.in_ok-body.body c.in_ok-body.ensures (not_else (kind_at c.args.tokens.now next) (λ h. not_from_false (kind_at c.args.tokens.now next ≡ Some k.Else) c.is_at.result c.is_at.ensures c.if-not-is_at.true h)))
 
-pub read_branches-read_stmt-requires : goal.read_branches-read_stmt-requires
-read_branches-read_stmt-requires g c = (search rules, (from_more (source c.args.bytes.now c.args.tokens.now) c.in_ok-body.next k.Else (c.is_at.ensures.0 c.if-not-is_at.false)).1)
+pub read_branches-read_stmt-requires-2 : goal.read_branches-read_stmt-requires-2
+read_branches-read_stmt-requires-2 g c = (search rules, (from_more (source c.args.bytes.now c.args.tokens.now) c.in_ok-body.next k.Else (c.is_at.ensures.0 c.if-not-is_at.false)).1)
 
 pub read_branches-returns-in_err-other : goal.read_branches-returns-in_err-other
 read_branches-returns-in_err-other g c =
@@ -139,8 +153,8 @@ pub read_branches-returns : goal.read_branches-returns
 read_branches-returns g c =
     let s = source c.args.bytes.now c.args.tokens.now in
     let next = c.in_ok-body.next in
-    subst (λ b. ReadsAt branches_read s c.args.at c.args.room (record { body = b; other = Some c.in_ok-other-2.field-0 }) c.in_ok-other.after) (sym c.in_ok-body-2.ensures)
-    (subst (λ o. ReadsAt branches_read s c.args.at c.args.room (record { body = c.in_ok-body.body; other = Some o }) c.in_ok-other.after) (sym c.in_ok-other-2.ensures)
+    subst (λ b. ReadsAt branches_read s c.args.at c.args.room (record { body = b; other = Some c.in_ok-new.field-0 }) c.in_ok-other.after) (sym c.in_ok-body-2.ensures)
+    (subst (λ o. ReadsAt branches_read s c.args.at c.args.room (record { body = c.in_ok-body.body; other = Some o }) c.in_ok-other.after) (sym c.in_ok-new.ensures)
     (branches_else_at s c.args.at next c.in_ok-other.after c.args.room c.in_ok-body.body c.in_ok-other.other c.in_ok-body.ensures (c.is_at.ensures.0 c.if-not-is_at.false) c.in_ok-other.ensures))
 
 -- ---- `while`

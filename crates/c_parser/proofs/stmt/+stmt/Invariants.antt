@@ -26,12 +26,12 @@ abbrev pub decreases-read_while : goal.decreases-read_while
 decreases-read_while l = 3 * l.room
 
 -- whatever stands from `next` on completes the statements
-abbrev pub invariant-read_stmts-loop-stmts : goal.invariant-read_stmts-loop-stmts
-invariant-read_stmts-loop-stmts l = record {
+abbrev pub invariant-read_stmts-loop-alloc : goal.invariant-read_stmts-loop-alloc
+invariant-read_stmts-loop-alloc l = record {
   inside : l.next ≤ length l.tokens;
   reads : (xs : List Stmt) (n : ℕ) → ReadsAt block_of (source l.bytes l.tokens) l.next l.room xs n → ReadsAt block_of (source l.bytes l.tokens) l.fn.at l.room (l.stmts ++ xs) n;
   refuses : (token : ℕ) (why : Wrong) → RefusesAt block_of (source l.bytes l.tokens) l.next l.room token why → RefusesAt block_of (source l.bytes l.tokens) l.fn.at l.room token why;
 }
 
-abbrev pub decreases-read_stmts-loop-stmts : goal.decreases-read_stmts-loop-stmts
-decreases-read_stmts-loop-stmts l = length l.tokens - l.next
+abbrev pub decreases-read_stmts-loop-alloc : goal.decreases-read_stmts-loop-alloc
+decreases-read_stmts-loop-alloc l = length l.tokens - l.next
