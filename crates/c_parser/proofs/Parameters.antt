@@ -13,7 +13,7 @@ use Rattle.c_tree.specs.Reading.{Refuses, ReadsAt, RefusesAt, from}
 use Rattle.c_tree.proofs.Parts.{tok, seq, Turn, TurnIf, Least}
 use Rattle.c_tree.proofs.Places.{from_some, from_more, some_name, tok_at, joined_at, first_refused_at, second_refused_at, turn_at, turn_if_at, word_joined}
 use Rattle.c_tree.proofs.Choices.{Headed, not_first, not_headed, headed_longer}
-use Rattle.c_parser.specs.Flagged.{params_of}
+use Rattle.c_parser.specs.Flagged.{SaysVoid, params_of}
 use Rattle.c_parser.proofs.Vars.{is_base, base_kind, base_single}
 use Rattle.c_parser.proofs.Ahead.{Ahead, ahead_at, ahead_refused}
 use Rattle.c_parser.proofs.Flags.{counts_within}
@@ -134,7 +134,7 @@ params_at s at middle next room p ps r t = ahead_at listed_params params_of list
 -- no bracket, and no `void` before one
 pub record IsListed (s : Source) (at : ℕ) : Type 0 where
   pub unclosed : kind_at s.tokens at ≢ Some k.CloseParen
-  pub unvoided : kind_at s.tokens at ≡ Some k.Void → kind_at s.tokens (at + 1) ≢ Some k.CloseParen
+  pub unvoided : SaysVoid s.tokens at → ⊥
 
 param_by : (a b : Kind) → a ≢ Some k.CloseParen → (a ≡ Some k.Void → b ≢ Some k.CloseParen) → is_param a b ≡ true
 param_by (Some k.CloseParen) b f g = absurd (f refl)
@@ -164,7 +164,7 @@ listed_here s at is =
     let n = from_some s at in
     elim (is_void_or (kind_at s.tokens at)) as (λ _. is_listed (from s.tokens at) ≡ true) [
       | inl other ↦ ap is_listed n.1 ∙ by_two (kind_at s.tokens at) n.0 (λ b. param_by (kind_at s.tokens at) b is.unclosed (λ h. absurd (other h)))
-      | inr h ↦ void_two s at h (is.unvoided h)
+      | inr h ↦ void_two s at h (λ i. is.unvoided (h, i))
     ]
 
 not_closed : (bad : Kind) (rest : List Kind) → is_listed (bad ∷ rest) ≡ true → bad ≢ Some k.CloseParen

@@ -215,6 +215,11 @@ whole_program s items a =
           sym o.items_are ∙ ap items_of (sym (same.1 (name_of s) 0 r.placed z.placed)) ∙ a.1;
     }
 
-pub whole_fault : (s : Source) (e : ReadFault) → AnswersProgram s 200 (Err e) → IsFaultOf s.tokens (fault_of e)
+whole_fault : (s : Source) (e : ReadFault) → AnswersProgram s 200 (Err e) → IsFaultOf s.tokens (fault_of e)
 whole_fault s (read.At token why) a = first_wrong s token why a
 whole_fault s read.NoMemory a = tt
+
+-- a fault of the items is that of the parser
+pub whole_handed : (s : Source) (e : ReadFault) → AnswersProgram s 200 (Err e) → (r : Result Program ParseFault) → IsErrAnd r (λ x. x ≡ fault_of e) → IfErr r (λ x. IsFaultOf s.tokens x)
+whole_handed s e a (Ok x) is = absurd is
+whole_handed s e a (Err x) is = subst (IsFaultOf s.tokens) (sym is) (whole_fault s e a)

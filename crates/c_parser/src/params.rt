@@ -1,9 +1,9 @@
 //! Parameters of functions.
-ghost use Rattle.std.specs.Prelude.{◌≡◌, ◌≤◌, ◌+◌, ℕ, length};
+ghost use Rattle.std.specs.Prelude.{◌≡◌, ◌≤◌, ◌↔◌, ◌+◌, ℕ, IsTrue, length};
 ghost use Rattle.c_tree.specs.Grammar.{param_said, more_params};
 ghost use Rattle.c_tree.specs.Reading.{Answers};
 ghost use Rattle.c_tree.specs.Tokens.{source};
-ghost use Rattle.c_parser.specs.Flagged.{AnswersFlagged, params_of};
+ghost use Rattle.c_parser.specs.Flagged.{AnswersFlagged, SaysVoid, params_of};
 
 use crate::declaration::{base_of, read_stars};
 use c_lexer::{Token, TokenKind};
@@ -25,7 +25,7 @@ pub(crate) fn read_params(
     if is_at(tokens, at, TokenKind::CloseParen) {
         return Ok((Nodes::new(alloc), at + 1));
     }
-    if is_at(tokens, at, TokenKind::Void) && is_at(tokens, at + 1, TokenKind::CloseParen) {
+    if says_void(tokens, at) {
         return Ok((Nodes::new(alloc), at + 2));
     }
     let (first, next) = read_param(alloc, bytes, tokens, at)?;
@@ -34,6 +34,14 @@ pub(crate) fn read_params(
     params.push(first)?;
     params.append(more)?;
     Ok((params, after))
+}
+
+/// Whether `void` and the bracket behind it say that there are no parameters.
+fn says_void(tokens: &[Token], at: usize) -> bool
+    requires { at ≤ length tokens.now }
+    ensures { IsTrue result ↔ SaysVoid tokens.now at }
+{
+    is_at(tokens, at, TokenKind::Void) && is_at(tokens, at + 1, TokenKind::CloseParen)
 }
 
 /// Reads the parameters behind the first one, up to and with the closing bracket.

@@ -43,4 +43,6 @@ returns-in-None c room =
     c.unexpected-in-None.result c.unexpected-in-None.ensures
 
 pub overflow_add-result : goal.overflow_add-result
-overflow_add-result c = (from_more (source c.args.bytes.now c.args.tokens.now) c.read_stars-stars.result.1 k.Name (c.is_at.ensures.0 c.if-not-is_at.false)).1
+overflow_add-result c =
+    let inside = (from_more (source c.args.bytes.now c.args.tokens.now) c.read_stars-stars.result.1 k.Name (c.is_at.ensures.0 c.if-not-is_at.false)).1 in
+    omega (arith, inside)
