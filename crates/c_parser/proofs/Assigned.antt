@@ -1,5 +1,5 @@
 -- Assignments, and calls of functions that stand alone: which of both it is, the second token tells.
-use Rattle.std.proofs.Common.{◌≡◌, ◌≢◌, ◌⊎◌, inl, inr, ◌∙◌, refl, sym, ap, subst, ℕ, ◌+◌, ◌-◌, ◌≤◌, max, Bool, true, false, List, [], ◌∷◌, ◌++◌, length, length-append, append_assoc, Some, None, arith}
+use Rattle.std.proofs.Common.{◌≡◌, ◌≢◌, ◌⊎◌, inl, inr, ◌∙◌, refl, sym, ap, subst, ℕ, ◌+◌, ◌-◌, Bool, true, false, List, [], ◌∷◌, ◌++◌, length-append, append_assoc, Some, None, arith}
 use Rattle.std.specs.Prelude.{map, ◌||◌}
 use Rattle.c_lexer.specs.declared.token.TokenKind.TheVariants as k
 use Rattle.c_tree.specs.declared.tree.Name.{Name}
@@ -21,7 +21,7 @@ use Rattle.c_tree.specs.Grammar.{is_open, args_of, condition_said, block_said, r
 use Rattle.c_tree.specs.Reading.{Stops, Begins, ReadsAt, RefusesAt, from}
 use Rattle.c_tree.proofs.Layers.{branches_of, CallLayer, call_layer, call_by_layer, StmtLayer, stmt_layer, stmt_made, stmt_made_said, stmt_by_layer, PlaceLayer, place_layer, place_by_layer, place_made_said, call_made_said}
 use Rattle.c_tree.proofs.Parts.{tok, kind_of, tok_single, front_head, stops_same, seq, seq_joined, Least, joined_refused_first, joined_refused_second, Turn, Joined}
-use Rattle.c_tree.proofs.Places.{some_name, from_more, from_some, first_refused_at, second_refused_at, RefusesBehind, tok_at, tok_refused_at, joined_at, turn_at, turn_refused_at}
+use Rattle.c_tree.proofs.Places.{some_name, from_more, from_some, first_refused_at, tok_at, tok_refused_at, joined_at, turn_at, turn_refused_at}
 use Rattle.c_tree.proofs.Choices.{quiet_parted, single_joined, behind_tok_at, behind_tok_refused_at, deep_behind, from_at}
 use Rattle.c_expressions.proofs.Heads.{args_quiet, place_goes, expr_least}
 use Rattle.c_expressions.proofs.Forms.{place_name_at, function_parts, function_of, function_call, function_at, function_behind}

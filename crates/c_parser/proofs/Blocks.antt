@@ -1,20 +1,20 @@
 -- Lists of statements, blocks, branches, `if` and `while`, at a place of the tokens.
 use Rattle.std.proofs.Common.{◌≡◌, ◌≢◌, ◌∙◌, refl, sym, ap, subst, ℕ, ◌+◌, ◌-◌, ◌≤◌, max, Bool, true, false, List, [], ◌∷◌, ◌++◌, length, append-nil, arith, Some, None}
-use Rattle.std.specs.Prelude.{map, ◌||◌, Option}
+use Rattle.std.specs.Prelude.{Option}
 use Rattle.c_lexer.specs.declared.token.TokenKind.TheVariants as k
 use Rattle.c_tree.specs.declared.tree.Expr.{Expr}
 use Rattle.c_tree.specs.declared.tree.Stmt.{Stmt}
 use Rattle.c_tree.specs.declared.tree.Stmt.TheOpen as s
 use Rattle.c_tree.specs.declared.tree.Stmt.TheVariants as stmt
 use Rattle.c_tree.specs.declared.fault.Wrong.{Wrong}
-use Rattle.c_tree.specs.declared.fault.Wrong.TheVariants.{Unexpected, TooDeep}
+use Rattle.c_tree.specs.declared.fault.Wrong.TheVariants.{TooDeep}
 use Rattle.c_tree.specs.Said.{Kind, Said, word, ◌⨾◌, deeper, nothing, moved}
 use Rattle.c_tree.specs.Tokens.{Source, kind_at}
-use Rattle.c_tree.specs.Grammar.{is_else, condition_said, block_said, stray, stmt_said}
+use Rattle.c_tree.specs.Grammar.{is_else, condition_said, stray, stmt_said}
 use Rattle.c_tree.specs.Reading.{Stops, Only, ReadsAt, RefusesAt}
-use Rattle.c_tree.proofs.Layers.{stmt_layer, stmt_made, stmt_made_said, stmt_by_layer}
+use Rattle.c_tree.proofs.Layers.{stmt_made_said, stmt_by_layer}
 use Rattle.c_tree.proofs.Layers.{branches_of as layer_branches}
-use Rattle.c_tree.proofs.Parts.{tok, seq, seq_joined, below, Turn, TurnIf, Least, Parted, Joined}
+use Rattle.c_tree.proofs.Parts.{tok, seq, seq_joined, below, Turn, TurnIf, Least, Joined}
 use Rattle.c_tree.proofs.Places.{from_some, tok_at, joined_at, first_refused_at, second_refused_at, turn_at, turn_if_at, turn_if_refused_at}
 use Rattle.c_tree.proofs.Choices.{Headed, or_first, or_second, or_both, not_first, not_headed, headed_parted, quiet_parted, whole_refused_at, in_level_at, in_level_refused_at, deep_at, Shallow, behind_tok_at, behind_tok_refused_at}
 use Rattle.c_expressions.proofs.Arguments.{condition_least}

@@ -1,5 +1,5 @@
 -- What stands behind the name of a function, at a place of the tokens.
-use Rattle.std.proofs.Common.{◌≡◌, ◌≢◌, ◌∙◌, refl, sym, ap, ℕ, ◌+◌, ◌-◌, ◌≤◌, max, Bool, false, List, [], ◌∷◌, ◌++◌, Some, arith}
+use Rattle.std.proofs.Common.{◌≡◌, ◌≢◌, refl, ℕ, ◌+◌, ◌-◌, ◌≤◌, Bool, false, List, [], Some, arith}
 use Rattle.c_lexer.specs.declared.token.TokenKind.TheVariants as k
 use Rattle.c_tree.specs.declared.tree.Param.{Param}
 use Rattle.c_tree.specs.declared.tree.Stmt.{Stmt}
@@ -18,7 +18,7 @@ use Rattle.c_parser.specs.Behind.{function_behind}
 use Rattle.c_parser.proofs.Wholes.{Whole, whole_at, whole_refused}
 use Rattle.c_parser.proofs.Blocks.{block_least}
 use Rattle.c_parser.proofs.Sequences.{levels_same}
-use Rattle.c_parser.proofs.Parameters.{params_quiet, params_flat, params_least}
+use Rattle.c_parser.proofs.Parameters.{params_quiet, params_flat}
 
 pub some_room : (room : ℕ) → 1 ≤ room → room ≢ 0
 some_room room some none = omega arith

@@ -1,23 +1,21 @@
 -- Items, at a place of the tokens: what stands behind the name, and both together.
-use Rattle.std.proofs.Common.{◌≡◌, ◌≢◌, ◌∙◌, ◌⊎◌, inl, inr, refl, sym, ap, ℕ, ◌+◌, ◌≤◌, max, Bool, true, false, List, [], ◌∷◌, ◌++◌, length, Some, None, arith}
-use Rattle.std.specs.Prelude.{map, Option}
+use Rattle.std.proofs.Common.{◌≡◌, ◌≢◌, ◌∙◌, ◌⊎◌, inl, inr, refl, sym, ap, ℕ, Bool, true, false, List, [], ◌∷◌, ◌++◌, Some, None, arith}
+use Rattle.std.specs.Prelude.{Option}
 use Rattle.c_lexer.specs.declared.token.TokenKind.TheVariants as k
 use Rattle.c_tree.specs.declared.tree.Base.{Base}
-use Rattle.c_tree.specs.declared.tree.Name.{Name}
 use Rattle.c_tree.specs.declared.tree.Param.{Param}
 use Rattle.c_tree.specs.declared.tree.Stmt.{Stmt}
 use Rattle.c_tree.specs.declared.tree.Expr.{Expr}
 use Rattle.c_tree.specs.declared.tree.Var.{Var}
-use Rattle.c_tree.specs.declared.tree.Item.{Item}
 use Rattle.c_tree.specs.declared.tree.Item.TheVariants as item
 use Rattle.c_tree.specs.declared.fault.Wrong.{Wrong}
 use Rattle.c_tree.specs.Said.{Kind, Said, stars, named, ◌⨾◌}
 use Rattle.c_tree.specs.Tokens.{Source, kind_at}
 use Rattle.c_tree.specs.Grammar.{is_open, base_said, param_said, value_said, more_vars, vars_said, expr_said}
 use Rattle.c_tree.specs.Reading.{ReadsAt, RefusesAt}
-use Rattle.c_tree.proofs.Parts.{tok, seq, seq_joined, TurnIf, Least, Joined}
+use Rattle.c_tree.proofs.Parts.{seq, seq_joined, TurnIf, Least, Joined}
 use Rattle.c_tree.proofs.Places.{joined_at, first_refused_at, second_refused_at, turn_if_at, turn_if_refused_at}
-use Rattle.c_tree.proofs.Choices.{Headed, not_first, not_headed, headed_longer, quiet_parted, headed_parted}
+use Rattle.c_tree.proofs.Choices.{Headed, not_first, not_headed, quiet_parted, headed_parted}
 use Rattle.c_parser.specs.declared.item.FunctionRest.{FunctionRest}
 use Rattle.c_parser.specs.Branches.{block_of}
 use Rattle.c_parser.specs.Flagged.{params_of}

@@ -1,5 +1,5 @@
 -- Parameters, at a place of the tokens.
-use Rattle.std.proofs.Common.{◌≡◌, ◌≢◌, ◌∙◌, refl, sym, ap, subst, ℕ, zero, suc, ◌+◌, ◌≤◌, Bool, true, false, List, [], ◌∷◌, ◌++◌, length, append_assoc, Some, None, arith}
+use Rattle.std.proofs.Common.{◌≡◌, ◌≢◌, refl, ap, ℕ, ◌+◌, Bool, true, false, List, [], ◌∷◌, ◌++◌, Some, None}
 use Rattle.c_lexer.specs.declared.token.TokenKind.TheVariants as k
 use Rattle.c_tree.specs.declared.tree.Base.{Base}
 use Rattle.c_tree.specs.declared.tree.Base.TheVariants as base
@@ -7,10 +7,10 @@ use Rattle.c_tree.specs.declared.tree.Name.{Name}
 use Rattle.c_tree.specs.declared.tree.Param.{Param}
 use Rattle.c_tree.specs.declared.fault.Wrong.{Wrong}
 use Rattle.c_tree.specs.declared.fault.Wrong.TheVariants.{Unexpected}
-use Rattle.c_tree.specs.Said.{Kind, Said, is_star, star_kinds, stars, named}
+use Rattle.c_tree.specs.Said.{Kind, Said, stars, named}
 use Rattle.c_tree.specs.Tokens.{Source, kind_at, name_of}
 use Rattle.c_tree.specs.Grammar.{base_said, param_said, more_params}
-use Rattle.c_tree.specs.Reading.{Stops, ReadsAt, RefusesAt}
+use Rattle.c_tree.specs.Reading.{ReadsAt, RefusesAt}
 use Rattle.c_tree.proofs.Parts.{tok, seq, seq_joined, Turn, TurnIf, Least, Joined}
 use Rattle.c_tree.proofs.Places.{some_name, tok_at, named_at, named_refused_at, joined_at, first_refused_at, second_refused_at, turn_at, turn_if_at, turn_if_refused_at}
 use Rattle.c_tree.proofs.Choices.{Headed, not_first, unheaded_at, headed_parted, quiet_parted, whole_refused_at, behind_single_at, behind_single_refused_at, behind_tok_at, behind_tok_refused_at}

@@ -1,6 +1,5 @@
 -- The parameters of a function up to the bracket, none of them in one of two ways, at a place of the tokens.
-use Rattle.std.proofs.Common.{◌≡◌, ◌≢◌, ◌∙◌, ◌⊎◌, inl, inr, refl, sym, ap, subst, ℕ, zero, suc, ◌+◌, ◌≤◌, max, Bool, true, false, List, [], ◌∷◌, ◌++◌, length, Some, None, arith}
-use Rattle.std.specs.Prelude.{Option}
+use Rattle.std.proofs.Common.{◌≡◌, ◌≢◌, ◌∙◌, ◌⊎◌, inl, inr, refl, sym, ap, subst, ℕ, zero, suc, ◌+◌, Bool, true, false, List, [], ◌∷◌, ◌++◌, Some, None, arith}
 use Rattle.c_lexer.specs.declared.token.TokenKind.TheVariants as k
 use Rattle.c_tree.specs.declared.tree.Base.{Base}
 use Rattle.c_tree.specs.declared.tree.Base.TheVariants as base
@@ -12,7 +11,7 @@ use Rattle.c_tree.specs.Grammar.{param_said, more_params}
 use Rattle.c_tree.specs.Reading.{Refuses, ReadsAt, RefusesAt, from}
 use Rattle.c_tree.proofs.Parts.{tok, seq, Turn, TurnIf, Least}
 use Rattle.c_tree.proofs.Places.{from_some, from_more, some_name, tok_at, joined_at, first_refused_at, second_refused_at, turn_at, turn_if_at, word_joined}
-use Rattle.c_tree.proofs.Choices.{Headed, not_first, not_headed, headed_longer}
+use Rattle.c_tree.proofs.Choices.{not_first, not_headed, headed_longer}
 use Rattle.c_parser.specs.Flagged.{SaysVoid, params_of}
 use Rattle.c_parser.proofs.Vars.{is_base, base_kind, base_single}
 use Rattle.c_parser.proofs.Ahead.{Ahead, ahead_at, ahead_refused}

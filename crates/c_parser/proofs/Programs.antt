@@ -1,10 +1,9 @@
 -- A program, item by item, and what a refusal says of whole programs.
-use Rattle.std.proofs.Common.{◌≡◌, ◌≢◌, ◌∙◌, ◌⊎◌, inl, inr, refl, sym, ap, subst, ℕ, ◌+◌, ◌≤◌, Bool, true, false, List, [], ◌∷◌, ◌++◌, length, take, append_assoc, append-nil, length-append, Some, None, arith}
-use Rattle.std.specs.Prelude.{◌<◌, map, is_some, Result, Ok, Err, IsErrAnd, IfErr}
+use Rattle.std.proofs.Common.{◌≡◌, ◌∙◌, ◌⊎◌, inl, inr, refl, sym, ap, subst, ℕ, ◌+◌, ◌≤◌, Bool, true, false, List, [], ◌∷◌, ◌++◌, length, take, append_assoc, append-nil, length-append, Some, None, arith}
+use Rattle.std.specs.Prelude.{◌<◌, is_some, Result, Ok, Err, IsErrAnd, IfErr}
 use Rattle.std.specs.Option.{option_map}
 use Rattle.std.proofs.lemmas.Option.{slice_get_cases}
 use Rattle.std.proofs.lemmas.List.{drop_all, append_cancel_right, map-append}
-use Rattle.io_edge.specs.declared.kinds.InputKind.{InputKind}
 use Rattle.io_edge.specs.declared.kinds.InputKind.TheVariants as kind
 use Rattle.c_lexer.specs.declared.token.Token.{Token}
 use Rattle.c_tree.specs.declared.tree.Item.{Item}
@@ -15,14 +14,14 @@ use Rattle.c_tree.specs.declared.fault.ReadFault.{ReadFault}
 use Rattle.c_tree.specs.declared.fault.ReadFault.TheVariants as read
 use Rattle.c_tree.specs.Said.{Kind, Said}
 use Rattle.c_tree.specs.Tokens.{Source, kind_at, name_of}
-use Rattle.c_tree.specs.Reading.{Stops, Only, Begins, Counts, GoesOn, Refuses, ReadsAt, RefusesAt, Answers, kinds_of, from}
+use Rattle.c_tree.specs.Reading.{Stops, Only, Begins, Counts, GoesOn, Refuses, ReadsAt, RefusesAt, kinds_of, from}
 use Rattle.c_tree.proofs.Parts.{seq, seq_joined, TurnIf, Least, Joined}
 use Rattle.c_tree.proofs.Places.{joined_at, first_refused_at, second_refused_at, turn_if_at, turn_if_refused_at}
 use Rattle.c_tree.proofs.Choices.{quiet_parted}
 use Rattle.c_parser.specs.declared.fault.ParseFault.{ParseFault}
 use Rattle.c_parser.specs.Faults.{kind_of, fault_of}
 use Rattle.c_parser.specs.Flagged.{AnswersFlagged}
-use Rattle.c_parser.specs.Program.{Written, written_said, program_said, items_of, IsWritten, IsOnlyProgram, ended, BeginsProgram, IsFirstWrong, IsFaultOf, AnswersProgram}
+use Rattle.c_parser.specs.Program.{Written, written_said, program_said, items_of, IsOnlyProgram, ended, BeginsProgram, IsFirstWrong, IsFaultOf, AnswersProgram}
 use Rattle.c_parser.proofs.Vars.{is_base}
 use Rattle.c_parser.proofs.Flags.{counts_within}
 use Rattle.c_parser.proofs.Items.{item_quiet, item_head}

@@ -1,10 +1,8 @@
 -- Each form of a statement without statements in it, at a place of the tokens.
-use Rattle.std.proofs.Common.{◌≡◌, ◌≢◌, ◌∙◌, refl, sym, ap, subst, ℕ, ◌+◌, ◌-◌, ◌≤◌, Bool, true, false, List, [], ◌∷◌, ◌++◌, length, append_assoc, Some, None, arith}
-use Rattle.std.specs.Prelude.{map, ◌||◌, Option}
+use Rattle.std.proofs.Common.{◌≡◌, ◌≢◌, ◌∙◌, refl, sym, ap, ℕ, ◌+◌, ◌-◌, Bool, true, false, List, [], ◌∷◌, ◌++◌, append_assoc, Some, None, arith}
+use Rattle.std.specs.Prelude.{Option}
 use Rattle.c_lexer.specs.declared.token.TokenKind.TheVariants as k
 use Rattle.c_tree.specs.declared.tree.Tok.{Tok}
-use Rattle.c_tree.specs.declared.tree.Name.{Name}
-use Rattle.c_tree.specs.declared.tree.Place.{Place}
 use Rattle.c_tree.specs.declared.tree.Call.{Call}
 use Rattle.c_tree.specs.declared.tree.Call.TheOpen as o
 use Rattle.c_tree.specs.declared.tree.Call.TheVariants as call
@@ -17,7 +15,7 @@ use Rattle.c_tree.specs.declared.fault.Wrong.{Wrong}
 use Rattle.c_tree.specs.declared.fault.Wrong.TheVariants.{Unexpected, TooDeep}
 use Rattle.c_tree.specs.Said.{Kind, Said, word, mark, ◌⨾◌}
 use Rattle.c_tree.specs.Tokens.{Source, kind_at, tok_of}
-use Rattle.c_tree.specs.Grammar.{is_open, is_add, is_compare, call_said, condition_said, expr_said, vars_said, declaration_said, returned_said, stmt_said}
+use Rattle.c_tree.specs.Grammar.{call_said, condition_said, expr_said, vars_said, declaration_said, returned_said, stmt_said}
 use Rattle.c_tree.specs.Reading.{Stops, ReadsAt, RefusesAt}
 use Rattle.c_tree.proofs.Layers.{StmtLayer, stmt_layer, stmt_made, stmt_made_said, stmt_by_layer, call_made_said}
 use Rattle.c_tree.proofs.Parts.{tok, seq, seq_joined, TurnIf, Least, Joined}

@@ -1,9 +1,8 @@
 -- The forms of a statement: what each begins with, and what a statement goes on with.
-use Rattle.std.proofs.Common.{◌≡◌, ◌≢◌, ◌∙◌, refl, sym, ap, subst, max, Bool, true, false, List, [], ◌∷◌, ◌++◌, length, append-nil, arith, Some, None}
-use Rattle.std.specs.Prelude.{map, ◌||◌, Option}
+use Rattle.std.proofs.Common.{◌≡◌, ◌≢◌, ◌∙◌, refl, ap, subst, Bool, true, false, List, [], ◌∷◌, ◌++◌, Some, None}
+use Rattle.std.specs.Prelude.{map, Option}
 use Rattle.c_lexer.specs.declared.token.TokenKind.TheVariants as k
 use Rattle.c_tree.specs.declared.tree.Tok.{Tok}
-use Rattle.c_tree.specs.declared.tree.Place.{Place}
 use Rattle.c_tree.specs.declared.tree.Call.{Call}
 use Rattle.c_tree.specs.declared.tree.Expr.{Expr}
 use Rattle.c_tree.specs.declared.tree.Declaration.{Declaration}
@@ -12,8 +11,7 @@ use Rattle.c_tree.specs.declared.tree.Stmt.{Stmt, Stmt-F, roll-Stmt, ind-Stmt, m
 use Rattle.c_tree.specs.declared.tree.Stmt.TheOpen as s
 use Rattle.c_tree.specs.declared.tree.Stmt.TheVariants as stmt
 use Rattle.c_tree.specs.Said.{Kind, Said, word, ◌⨾◌}
-use Rattle.c_tree.specs.Grammar.{is_else, condition_said, place_said, call_said, expr_said, base_said, vars_said, more_vars, var_said, declaration_said, returned_said, block_said, stray, stmt_said}
-use Rattle.c_tree.specs.Reading.{Stops}
+use Rattle.c_tree.specs.Grammar.{is_else, condition_said, place_said, call_said, expr_said, vars_said, more_vars, declaration_said, returned_said, block_said, stmt_said}
 use Rattle.c_tree.proofs.Layers.{StmtLayer, stmt_layer, stmt_made, stmt_made_said, stmt_rolls, stmt_by_layer, branches_of}
 use Rattle.c_tree.proofs.Parts.{Least}
 use Rattle.c_tree.proofs.Choices.{Headed, headed_longer, head_passes, or_both}

@@ -1,5 +1,5 @@
 -- Variables and declarations.
-use Rattle.std.proofs.Common.{◌≡◌, ◌≢◌, ◌∙◌, refl, sym, ap, subst, ℕ, zero, suc, ◌+◌, ◌≤◌, max, Bool, true, false, List, [], ◌∷◌, ◌++◌, length, Some, None, arith}
+use Rattle.std.proofs.Common.{◌≡◌, ◌≢◌, ◌∙◌, refl, sym, ap, subst, ℕ, zero, suc, ◌+◌, ◌≤◌, Bool, true, false, List, [], ◌∷◌, ◌++◌, length, Some, None, arith}
 use Rattle.std.specs.Prelude.{Option}
 use Rattle.c_lexer.specs.declared.token.TokenKind.{TokenKind}
 use Rattle.c_lexer.specs.declared.token.TokenKind.TheVariants as k
@@ -13,10 +13,10 @@ use Rattle.c_tree.specs.declared.fault.Wrong.{Wrong}
 use Rattle.c_tree.specs.declared.fault.Wrong.TheVariants.{Unexpected}
 use Rattle.c_tree.specs.Said.{Kind, Said, is_star, star_kinds, stars, named, nothing}
 use Rattle.c_tree.specs.Tokens.{Source, kind_at, name_of}
-use Rattle.c_tree.specs.Grammar.{is_open, is_add, is_compare, is_assign, expr_said, base_said, value_said, var_said, more_vars, vars_said, declaration_said}
+use Rattle.c_tree.specs.Grammar.{is_assign, expr_said, base_said, value_said, var_said, more_vars, declaration_said}
 use Rattle.c_tree.specs.Reading.{Placed, Stops, Only, ReadsAt, RefusesAt, from}
-use Rattle.c_tree.proofs.Parts.{Single, tok, kind_of, named_single, seq, seq_joined, single_least, Turn, TurnIf, Least, Parted, Joined}
-use Rattle.c_tree.proofs.Places.{from_more, from_some, some_name, single_at, single_refused_at, tok_at, named_at, named_refused_at, joined_at, first_refused_at, second_refused_at, turn_at, turn_if_at, turn_if_refused_at}
+use Rattle.c_tree.proofs.Parts.{Single, tok, kind_of, named_single, seq, seq_joined, Turn, TurnIf, Least, Joined}
+use Rattle.c_tree.proofs.Places.{from_more, from_some, some_name, single_at, tok_at, named_at, named_refused_at, joined_at, first_refused_at, second_refused_at, turn_at, turn_if_at, turn_if_refused_at}
 use Rattle.c_tree.proofs.Choices.{Headed, not_first, unheaded_at, headed_parted, whole_refused_at, single_joined, behind_single_at, behind_single_refused_at, behind_tok_at, behind_tok_refused_at}
 use Rattle.c_expressions.proofs.Heads.{expr_goes, expr_least}
 use Rattle.c_parser.specs.Bases.{base_of}

@@ -1,5 +1,5 @@
 -- What stands behind the name of an item.
-use Rattle.std.specs.Prelude.{Bool, List, map}
+use Rattle.std.specs.Prelude.{Bool, map}
 use Rattle.c_lexer.specs.declared.token.TokenKind.TheVariants as k
 use Rattle.c_tree.specs.Said.{Said, word, ◌⨾◌, deeper}
 use Rattle.c_tree.specs.Grammar.{params_said, block_said, stmt_said}

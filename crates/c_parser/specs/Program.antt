@@ -1,5 +1,5 @@
 -- Programs, and the first token that none goes on with.
-use Rattle.std.specs.Prelude.{◌≡◌, ◌⊎◌, ℕ, ◌+◌, ◌≤◌, Bool, true, false, not, List, [], ◌∷◌, ◌++◌, length, take, map, Some, None, is_some, Result, Ok, Err}
+use Rattle.std.specs.Prelude.{◌≡◌, ◌⊎◌, ℕ, ◌+◌, ◌≤◌, Bool, List, [], ◌∷◌, ◌++◌, length, take, map, None, is_some, Result, Ok, Err}
 use Rattle.io_edge.specs.declared.kinds.InputKind.{InputKind}
 use Rattle.io_edge.specs.declared.kinds.InputKind.TheVariants.{Unexpected, TooDeep}
 use Rattle.c_lexer.specs.declared.token.Token.{Token}
@@ -9,7 +9,7 @@ use Rattle.c_tree.specs.declared.fault.ReadFault.{ReadFault}
 use Rattle.c_tree.specs.declared.fault.ReadFault.TheVariants as read
 use Rattle.c_tree.specs.Said.{Kind, Said, nothing, ◌⨾◌}
 use Rattle.c_tree.specs.Grammar.{item_said}
-use Rattle.c_tree.specs.Tokens.{Source, source, name_of}
+use Rattle.c_tree.specs.Tokens.{Source, name_of}
 use Rattle.c_tree.specs.Reading.{Placed, kinds_of, ReadsAt, RefusesAt}
 use Rattle.c_parser.specs.declared.fault.ParseFault.{ParseFault}
 use Rattle.c_parser.specs.declared.fault.ParseFault.TheVariants as fault

@@ -1,4 +1,4 @@
-use Rattle.std.proofs.Common.{◌≡◌, sym, ◌∙◌, ap, subst, ◌+◌, [], ◌∷◌, ◌++◌, arith, rules, Some, None}
+use Rattle.std.proofs.Common.{sym, ◌∙◌, ap, subst, ◌+◌, [], ◌∷◌, ◌++◌}
 use Rattle.c_tree.specs.Tokens.{source, kind_at}
 use Rattle.c_tree.specs.Grammar.{var_said, more_vars, declaration_said}
 use Rattle.c_tree.specs.Reading.{ReadsAt}

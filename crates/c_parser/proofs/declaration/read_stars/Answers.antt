@@ -1,4 +1,4 @@
-use Rattle.std.proofs.Common.{◌≡◌, ◌+◌, ◌≤◌, [], length, arith, Some}
+use Rattle.std.proofs.Common.{◌≡◌, ◌+◌, [], arith, Some}
 use Rattle.c_lexer.specs.declared.token.TokenKind.TheVariants as k
 use Rattle.c_tree.specs.Tokens.{source, kind_at}
 use Rattle.c_tree.proofs.Places.{from_more}

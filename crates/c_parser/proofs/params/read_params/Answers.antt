@@ -1,4 +1,4 @@
-use Rattle.std.proofs.Common.{◌≡◌, sym, ◌∙◌, ap, subst, ◌+◌, false, true, [], ◌∷◌, ◌++◌, arith, rules, Some, None}
+use Rattle.std.proofs.Common.{◌≡◌, sym, ◌∙◌, ap, subst, ◌+◌, false, true, [], ◌∷◌, ◌++◌, Some}
 use Rattle.c_lexer.specs.declared.token.TokenKind.TheVariants as k
 use Rattle.c_tree.specs.Tokens.{source, kind_at}
 use Rattle.c_tree.specs.Grammar.{param_said, more_params}

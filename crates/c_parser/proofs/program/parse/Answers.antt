@@ -1,4 +1,3 @@
-use Rattle.std.proofs.Common.{sym, subst}
 use Rattle.c_tree.specs.Tokens.{source}
 use Rattle.c_parser.proofs.Programs.{whole_program, whole_handed}
 use Rattle.c_parser.proofs.program.parse.Goals as goal

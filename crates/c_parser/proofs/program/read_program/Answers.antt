@@ -1,6 +1,5 @@
-use Rattle.std.proofs.Common.{sym, ◌∙◌, ap, subst, arith}
+use Rattle.std.proofs.Common.{arith}
 use Rattle.c_tree.specs.Tokens.{source}
-use Rattle.c_parser.specs.Program.{written_said}
 use Rattle.c_parser.proofs.Programs.{none_so_far, one_further, all_read, handed_up, item_advances}
 use Rattle.c_parser.proofs.program.read_program.Goals as goal
 

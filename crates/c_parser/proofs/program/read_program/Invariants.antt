@@ -1,4 +1,4 @@
-use Rattle.std.proofs.Common.{◌≤◌, ℕ, ◌-◌, length}
+use Rattle.std.proofs.Common.{◌≤◌, ◌-◌, length}
 use Rattle.c_tree.specs.Tokens.{source}
 use Rattle.c_parser.proofs.Programs.{ReadSoFar}
 use Rattle.c_parser.proofs.program.read_program.Given as goal

@@ -1,11 +1,8 @@
-use Rattle.std.proofs.Common.{◌≡◌, sym, ◌∙◌, ap, subst, ◌+◌, ◌-◌, [], ◌∷◌, ◌++◌, append_assoc, append-nil, arith, rules, Some, None}
+use Rattle.std.proofs.Common.{◌≡◌, ◌+◌, Some}
 use Rattle.c_lexer.specs.declared.token.TokenKind.TheVariants as k
-use Rattle.c_tree.specs.declared.tree.Call.TheVariants as call
-use Rattle.c_tree.specs.declared.tree.Stmt.TheVariants as stmt
-use Rattle.c_tree.specs.declared.fault.Wrong.TheVariants.{Unexpected, TooDeep}
-use Rattle.c_tree.specs.Tokens.{source, kind_at, tok_of}
-use Rattle.c_tree.specs.Grammar.{args_of, condition_said, place_said, expr_said, declaration_said, returned_said, stmt_said}
-use Rattle.c_tree.specs.Reading.{ReadsAt}
+use Rattle.c_tree.specs.declared.fault.Wrong.TheVariants.{Unexpected}
+use Rattle.c_tree.specs.Tokens.{source, kind_at}
+use Rattle.c_tree.specs.Grammar.{place_said, expr_said, stmt_said}
 use Rattle.c_tree.proofs.Places.{from_more}
 use Rattle.c_tree.proofs.Choices.{not_from_false}
 use Rattle.c_tree.proofs.Handed.{handed_on, refused}

@@ -1,4 +1,4 @@
-use Rattle.std.proofs.Common.{◌≡◌, ap, sym, ◌∙◌, ◌+◌, true, Some, None}
+use Rattle.std.proofs.Common.{◌≡◌, ap, sym, ◌∙◌, ◌+◌, true, Some}
 use Rattle.c_lexer.specs.declared.token.TokenKind.TheVariants as k
 use Rattle.c_tree.specs.Tokens.{source, kind_at}
 use Rattle.c_tree.specs.Grammar.{declaration_said, stmt_said}

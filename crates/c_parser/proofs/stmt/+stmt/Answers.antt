@@ -1,7 +1,7 @@
 use Rattle.std.proofs.Common.{◌≡◌, sym, ◌∙◌, ap, subst, ◌+◌, ◌-◌, [], ◌∷◌, ◌++◌, append_assoc, append-nil, arith, rules, Some, None}
 use Rattle.c_lexer.specs.declared.token.TokenKind.TheVariants as k
 use Rattle.c_tree.specs.declared.tree.Stmt.TheVariants as stmt
-use Rattle.c_tree.specs.declared.fault.Wrong.TheVariants.{Unexpected, TooDeep}
+use Rattle.c_tree.specs.declared.fault.Wrong.TheVariants.{TooDeep}
 use Rattle.c_tree.specs.Tokens.{source, kind_at}
 use Rattle.c_tree.specs.Grammar.{condition_said, stmt_said}
 use Rattle.c_tree.specs.Reading.{ReadsAt}
@@ -9,7 +9,6 @@ use Rattle.c_tree.proofs.Places.{from_more}
 use Rattle.c_tree.proofs.Choices.{not_from_false}
 use Rattle.c_tree.proofs.Handed.{handed_on, refused}
 use Rattle.c_parser.specs.Branches.{branches_read, block_of}
-use Rattle.c_parser.specs.Starts.{is_flat}
 use Rattle.c_parser.proofs.Blocks.{not_else, brace_at, item_at, item_refused, later_refused, stmt_advances, empty_at, block_at, block_refused, block_deep, branches_at, branches_else_at, body_refused, other_refused, if_at, if_condition_refused, if_branches_refused, if_deep, while_at, while_condition_refused, while_body_refused, while_deep}
 use Rattle.c_parser.proofs.Stmts.{flat_here}
 use Rattle.c_parser.proofs.stmt.+stmt.Goals as goal
