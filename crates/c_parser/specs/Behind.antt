@@ -7,4 +7,5 @@ use Rattle.c_parser.specs.declared.item.FunctionRest.{FunctionRest}
 
 -- parameters in their brackets, and a block
 abbrev pub function_behind : Bool × FunctionRest → Said
-function_behind x = word k.OpenParen ⨾ params_said x.0 x.1.params ⨾ deeper (word k.OpenBrace ⨾ block_said (map stmt_said x.1.block))
+function_behind x =
+    word k.OpenParen ⨾ params_said x.0 x.1.params ⨾ deeper (word k.OpenBrace ⨾ block_said (map stmt_said x.1.block))

@@ -80,6 +80,7 @@ IsFaultOf tokens fault.NoMemory = Unit {0}
 
 -- what the reader of all items answers
 abbrev pub AnswersProgram : Source → ℕ → Result (List Item) ReadFault → Type 0
-AnswersProgram s room (Ok items) = (written : List Written) × (items_of written ≡ items) × ReadsAt program_said s 0 room written (length s.tokens)
+AnswersProgram s room (Ok items) =
+    (written : List Written) × (items_of written ≡ items) × ReadsAt program_said s 0 room written (length s.tokens)
 AnswersProgram s room (Err (read.At token why)) = RefusesAt program_said s 0 room token why
 AnswersProgram s room (Err read.NoMemory) = Unit {0}

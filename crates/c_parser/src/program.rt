@@ -18,6 +18,9 @@ const MAX_LEVELS: usize = 200;
 /// name of a function in a call, blocks, stars, `if` and `while`. Refused is the first token such that
 /// no program begins with the tokens up to and with it: as `TooDeep` where only the levels forbid it,
 /// else as `Unexpected`; the end of the tokens counts as one.
+///
+/// It is read by recursive descent with two tokens of lookahead (Aho, Sethi and Ullman, *Compilers*,
+/// 1986, section 4.4), and never goes back.
 pub fn parse(alloc: Global, bytes: &[u8], tokens: &[Token]) -> Result<Program, ParseFault>
     ensures program { IfOk result (λ p. IsOnlyProgram (source bytes.now tokens.now) p) }
     ensures fault { IfErr result (λ e. IsFaultOf tokens.now e) }
