@@ -26,7 +26,7 @@ use Rattle.c_tree.proofs.Choices.{suc_pred, single_joined, behind_single_at, not
 use Rattle.c_expressions.proofs.Heads.{is_place_start, is_call_start, is_pointer_start, call_head, place_head, pointer_head, place_least, pointer_least, expr_least, some_tok}
 use Rattle.c_expressions.proofs.Arguments.{args_least, condition_least}
 
-abbrev is_name : Kind → Bool
+abbrev pub is_name : Kind → Bool
 is_name (Some k.Name) = true
 is_name _ = false
 
@@ -47,10 +47,10 @@ abbrev pub is_malloc : Kind → Bool
 is_malloc (Some k.Malloc) = true
 is_malloc _ = false
 
-abbrev malloc_parts : Tok × Expr → Said
+abbrev pub malloc_parts : Tok × Expr → Said
 malloc_parts = below (seq (mark k.Malloc) condition_said)
 
-abbrev malloc_of : Tok × Expr → Call
+abbrev pub malloc_of : Tok × Expr → Call
 malloc_of x = call.Malloc x.0 x.1
 
 -- which of two calls it is, the first token tells
@@ -132,16 +132,16 @@ place_no_call_at s at room e i =
     }
 
 -- ---- a call of a function
-abbrev function_args : Unit {0} × List Expr → Said
+abbrev pub function_args : Unit {0} × List Expr → Said
 function_args = seq (tok k.OpenParen) args_of
 
 function_args_least : Least function_args
 function_args_least = record { tree = (tt, []); flat = refl; nearest = refl }
 
-abbrev function_parts : Name × (Unit {0} × List Expr) → Said
+abbrev pub function_parts : Name × (Unit {0} × List Expr) → Said
 function_parts = below (seq named function_args)
 
-abbrev function_of : Name × (Unit {0} × List Expr) → Call
+abbrev pub function_of : Name × (Unit {0} × List Expr) → Call
 function_of x = call.Function x.0 x.1.1
 
 -- what stands behind a name and a bracket, refused
@@ -169,14 +169,14 @@ function_at s at room next args e i some r =
     (behind_single_at named (kind_of k.Name) named_single function_args function_args_least s at next (room - 1) (name_of s at) (tt, args) (named_at s at (room - 1) e)
     (behind_tok_at args_of args_least s (at + 1) (room - 1) k.OpenParen i next args r'))
 
-function_call : (c : Call) (r more : List Kind) → (call_said c).kinds ++ r ≡ Some k.Name ∷ Some k.OpenParen ∷ more → (x : Name × (Unit {0} × List Expr)) × (c ≡ function_of x)
+pub function_call : (c : Call) (r more : List Kind) → (call_said c).kinds ++ r ≡ Some k.Name ∷ Some k.OpenParen ∷ more → (x : Name × (Unit {0} × List Expr)) × (c ≡ function_of x)
 function_call = call_by_layer (λ s t. (r more : List Kind) → s.kinds ++ r ≡ Some k.Name ∷ Some k.OpenParen ∷ more → (x : Name × (Unit {0} × List Expr)) × (t ≡ function_of x)) layer
   where
     layer : (x : CallLayer) (r more : List Kind) → (call_layer x).kinds ++ r ≡ Some k.Name ∷ Some k.OpenParen ∷ more → (y : Name × (Unit {0} × List Expr)) × (call_made x ≡ function_of y)
     layer (o.Function name args) r more e = ((name, (tt, args)), refl)
     layer (o.Malloc t size) r more e = absurd (not_first is_name (Some k.Malloc) (Some k.Name) ((condition_said size).kinds ++ r) (Some k.OpenParen ∷ more) e refl refl)
 
-abbrev call_pointer : Name × (Unit {0} × List Expr) → Pointer
+abbrev pub call_pointer : Name × (Unit {0} × List Expr) → Pointer
 call_pointer x = pointer.Call (function_of x)
 
 pointer_function : (x : PointerLayer) (r more : List Kind) → (pointer_layer x).kinds ++ r ≡ Some k.Name ∷ Some k.OpenParen ∷ more → Stops (pointer_layer x) r → (y : Name × (Unit {0} × List Expr)) × (pointer_made x ≡ call_pointer y)
@@ -206,7 +206,7 @@ pointer_function_deep_at s at room e i z =
     deep_behind function_parts pointer_said call_pointer (Some k.Name ∷ []) (Some k.OpenParen) pointer_function_turn (λ x. omega arith) (some_name, (tt, [])) (omega arith) refl (bare_begins pointer_said pointer.Name pointer_bare 0) s at room f.0 (m.0 ∙ ap (λ w. Some k.Name ∷ w) f.1) z
 
 -- ---- `malloc` behind a star
-abbrev malloc_pointer : Tok × Expr → Pointer
+abbrev pub malloc_pointer : Tok × Expr → Pointer
 malloc_pointer x = pointer.Call (malloc_of x)
 
 pointer_malloc : (x : PointerLayer) (r : List Kind) (kind : Kind) (more : List Kind) → (pointer_layer x).kinds ++ r ≡ kind ∷ more → is_malloc kind ≡ true → (y : Tok × Expr) × (pointer_made x ≡ malloc_pointer y)
@@ -232,7 +232,7 @@ pub pointer_malloc_deep_at : (s : Source) (at room : ℕ) → kind_at s.tokens a
 pointer_malloc_deep_at s at room e z = deep_at malloc_parts pointer_said malloc_pointer is_malloc pointer_malloc_turn (λ x. omega arith) k.Malloc malloc_shallow refl pointer_least s at room e z
 
 -- ---- a star and what it points through
-abbrev star_parts : Tok × Pointer → Said
+abbrev pub star_parts : Tok × Pointer → Said
 star_parts = below (seq (mark k.Star) pointer_said)
 
 star_shallow : Shallow star_parts (Some k.Star)
@@ -244,7 +244,7 @@ call_no_star : (kind : Kind) → is_star kind ≡ true → is_call_start kind �
 call_no_star (Some k.Star) e = refl
 call_no_star _ e = absurd (cc)
 
-abbrev star_pointer : Tok × Pointer → Pointer
+abbrev pub star_pointer : Tok × Pointer → Pointer
 star_pointer x = pointer.Star x.0 x.1
 
 pointer_star : (x : PointerLayer) (r : List Kind) (kind : Kind) (more : List Kind) → (pointer_layer x).kinds ++ r ≡ kind ∷ more → is_star kind ≡ true → (y : Tok × Pointer) × (pointer_made x ≡ star_pointer y)
@@ -260,7 +260,7 @@ pointer_star_turn = record {
   begins = λ x. (Some k.Star, ((pointer_said x.1).kinds, refl, refl));
 }
 
-abbrev star_place : Tok × Pointer → Place
+abbrev pub star_place : Tok × Pointer → Place
 star_place x = place.Star x.0 x.1
 
 place_star : (x : PlaceLayer) (r : List Kind) (kind : Kind) (more : List Kind) → (place_layer x).kinds ++ r ≡ kind ∷ more → is_star kind ≡ true → (y : Tok × Pointer) × (place_made x ≡ star_place y)
@@ -310,7 +310,7 @@ pub place_star_deep_at : (s : Source) (at room : ℕ) → kind_at s.tokens at �
 place_star_deep_at s at room e z = starred_deep_at place_said star_place place_star_turn place_least s at room e z
 
 -- ---- brackets
-abbrev paren_parts : Expr → Said
+abbrev pub paren_parts : Expr → Said
 paren_parts = below condition_said
 
 call_no_open : (kind : Kind) → is_open kind ≡ true → is_call_start kind ≡ false

@@ -1,0 +1,14 @@
+pub mod Wholes
+pub mod Vars
+pub mod Stmts
+pub mod Blocks
+pub mod SimpleForms
+pub mod Ahead
+pub mod Assigned
+pub mod ParamForms
+pub mod Sequences
+pub mod Flags
+pub mod Parameters
+pub mod Functions
+pub mod Items
+pub mod Programs

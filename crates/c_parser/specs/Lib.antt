@@ -1,0 +1,7 @@
+pub mod Bases
+pub mod Behind
+pub mod Branches
+pub mod Faults
+pub mod Flagged
+pub mod Program
+pub mod Starts
