@@ -16,6 +16,4 @@ mod manifests;
 #[cfg(test)]
 mod partitions;
 #[cfg(test)]
-mod programs;
-#[cfg(test)]
 mod tables;
