@@ -22,7 +22,7 @@ use Rattle.store.specs.declared.source.Source.{Source}
 use Rattle.store.specs.declared.tables.Tables.{Tables}
 use Rattle.store.specs.NewStore.{IsBuilt, IsCounted, IsPut, SameTexts, expect_at, graph_in, part_at}
 use Rattle.store.proofs.Covering.{same_low}
-use Rattle.store.proofs.Parts.{one_part_more}
+use Rattle.store.proofs.PartLemmas.{one_part_more}
 
 -- what holds of each element and of one more
 pushed : {A : Type 0} (P : ℕ → A → Type 0) (xs : List A) (y d : A) (i : ℕ) → length xs ≡ i → ((k : ℕ) → k < i → P k (get_or xs k d)) → P i y → (k : ℕ) → k < i + 1 → P k (get_or (xs ++ y ∷ []) k d)

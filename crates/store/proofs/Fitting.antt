@@ -25,7 +25,7 @@ use Rattle.store.specs.NewStore.{IsBuilt, IsFirst, expect_at}
 use Rattle.closing_machine.specs.Capacity.{IsBetween}
 use Rattle.closing_machine.proofs.Boxes.{passing_fit}
 use Rattle.store.proofs.Covering.{cover_is, ends_are, same_low, width_is}
-use Rattle.store.proofs.Parts.{all_of}
+use Rattle.store.proofs.PartLemmas.{all_of}
 
 pub lies_at : (ends : List ℕ) (v : ℕ) → IsCut ends → v < vertices_of ends → LiesIn ends (place ends v) v
 lies_at ends v cut below =

@@ -1,11 +1,11 @@
 pub mod Lengths
-pub mod Parts
+pub mod PartLemmas
 pub mod Covering
 pub mod Fitting
 pub mod Opening
 pub mod Causes
 pub mod Images
 pub mod Building
-pub mod Counts
+pub mod CountLemmas
 pub mod Readying
 pub mod Switching

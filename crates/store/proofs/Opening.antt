@@ -38,7 +38,7 @@ use Rattle.store.specs.Import.{texts_of}
 use Rattle.store.specs.NewStore.{IsBuilt, IsFirst, IsSource, graph_in}
 use Rattle.store.proofs.Covering.{same_low}
 use Rattle.store.proofs.Fitting.{cut_all, ends_of_parts, lies_at, ordered}
-use Rattle.store.proofs.Parts.{all_of, stands}
+use Rattle.store.proofs.PartLemmas.{all_of, stands}
 
 -- a given edge begins at a vertex
 given_source : (n : Normal) (edges : List Edge) (e : Edge) → IsGiven n (graph_with (vertex_count_of edges) edges) e → e.src.0 < vertex_count_of edges

@@ -36,6 +36,7 @@ source_later grammar told tells c d s src same =
       reads = src.reads;
       is_file = src.is_file;
       len_is = src.len_is;
+      copy_file = src.copy_file;
       degrees_are = src.degrees_are;
       few = src.few;
       grammar_copy = λ tell. (same tell).grammar ∙ src.grammar_copy tell;
@@ -64,6 +65,7 @@ module _ (grammar : List ℕ) (told : Option (List ℕ)) (tells : Type 0) (c : C
   may_put law limit ends by_degree =
       let longer = length-grown src.names s.copied.labels grown in
       record {
+        copy_file = src.copy_file;
         vertices = src.few.vertices;
         rules = All-weaker (λ (r : Rule). r.left.0 < length src.names) (λ (r : Rule). r.left.0 < length s.copied.labels) (λ r low. omega (arith, low, longer)) s.normal src.grammar_reads.numbered;
         good = good_copy law;

@@ -45,7 +45,7 @@ pub record IsSource (grammar : List ℕ) (told : Option (List ℕ)) (tells : Typ
   pub reads : ReadsEdges 0 (grammar_names grammar) text edges s.copied.labels
   pub is_file : (file : List ℕ) → told ≡ Some file → text ≡ file
   pub len_is : s.copied.len ≡ length text
-  pub file_is : s.copied.file ≡ 3
+  pub copy_file : s.copied.file ≡ 3
   pub degrees_are : AreDegrees edges s.copied.degrees.items
   pub few : AreFew s.copied
   pub grammar_copy : tells → c 2 ≡ grammar
@@ -53,7 +53,7 @@ pub record IsSource (grammar : List ℕ) (told : Option (List ℕ)) (tells : Typ
 
 -- The intervals cut the vertices of the texts, and the copy of the edges is still the one that was made.
 pub record MayPut (s : Source) (ends : List ℕ) (tells : Type 0) (c : Contents) : Type 0 where
-  pub file_is : s.copied.file ≡ 3
+  pub copy_file : s.copied.file ≡ 3
   pub vertices : s.copied.vertices ≤ 16777216
   pub rules : All (λ r. r.left.0 < length s.copied.labels) s.normal
   pub good : tells → IsGoodCopy s.copied.labels s.copied.len s.copied.vertices (c 3)

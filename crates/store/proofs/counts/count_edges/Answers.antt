@@ -3,7 +3,7 @@ use Rattle.std.proofs.lemmas.List.{take_all}
 use Rattle.graph_words.specs.declared.types.Born.{Born as ABorn}
 use Rattle.dest_map.specs.Counts.{IsCountsOf}
 use Rattle.dest_map.specs.Table.{counts_of}
-use Rattle.store.proofs.Counts.{counted_more, raised_few, raised_other}
+use Rattle.store.proofs.CountLemmas.{counted_more, raised_few, raised_other}
 use Rattle.store.proofs.counts.count_edges.Goals as goal
 
 pub loop-born-preserved : goal.loop-born-preserved
