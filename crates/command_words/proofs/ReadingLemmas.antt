@@ -2,9 +2,11 @@
 use Rattle.std.proofs.Common.{◌≡◌, ◌≤◌, ◌<◌, ℕ, List, [], ◌∷◌, Option, Some, None, All, length, drop, slice_index_or, codes, unwrap_or, arith, ap, subst, refl, sym, ◌∙◌}
 use Rattle.std.specs.Str.Parse.{digits_value}
 use Rattle.command_words.specs.Words.{Given}
-use Rattle.command_words.specs.Command.{Said, run, query, dump, parts, Says, Reading, IsDestination, AreNumbers, IsNumberOr, AreWithin, RunsWithin, value_of}
+use Rattle.command_words.specs.Command.{Said, run, query, emit, dump, parts, Says, kind_word, Reading, IsDestination, AreNumbers, IsNumberOr, AreWithin, RunsWithin, value_of}
 use Rattle.command_words.specs.CutWords.{Cut, any, cut_from}
 use Rattle.closing_options.specs.declared.RunOptions.{RunOptions}
+use Rattle.command_words.specs.declared.command.GraphKind.{GraphKind}
+use Rattle.command_words.specs.declared.command.GraphKind.TheVariants.{Alias, Null}
 use Rattle.command_words.proofs.CutsLemmas.{cut, cut_of, cuts_of}
 
 -- ---- the reading of a cut
@@ -50,6 +52,7 @@ numbers_within options n are =
 pub runs_within : (name : List ℕ) (options : List Given) (plains : List (List ℕ)) (c : Said) → Says name options plains c → RunsWithin c
 runs_within name options plains (run edges grammar numbers show) says = numbers_within options numbers says.2.numbers_are
 runs_within name options plains (query label from to) says = tt
+runs_within name options plains (emit kind source) says = tt
 runs_within name options plains dump says = tt
 runs_within name options plains parts says = tt
 
@@ -79,6 +82,12 @@ one_destination (w ∷ []) (Some a) (Some b) h k = ap Some (sym h.value ∙ k.va
 one_destination (w ∷ v ∷ ws) None b h k = absurd h
 one_destination (w ∷ v ∷ ws) (Some a) b h k = absurd h
 
+one_kind : (a b : GraphKind) → kind_word a ≡ kind_word b → a ≡ b
+one_kind Alias Alias h = refl
+one_kind Null Null h = refl
+one_kind Alias Null h = absurd (let bad : 97 ≡ 110 = ap (λ l. slice_index_or l 0 0) h in omega arith)
+one_kind Null Alias h = absurd (let bad : 110 ≡ 97 = ap (λ l. slice_index_or l 0 0) h in omega arith)
+
 one_command : (name : List ℕ) (options : List Given) (plains : List (List ℕ)) (c d : Said) → Says name options plains c → Says name options plains d → c ≡ d
 one_command name options plains (run e g o s) (run e' g' o' s') h k =
     let p = sym h.1 ∙ k.1 in
@@ -95,6 +104,19 @@ one_command name options plains (query l f t) (query l' f' t') h k =
     let from : f ≡ f' = sym h.2.from_is.value ∙ (ap (digits_value 10) word ∙ k.2.from_is.value) in
     let to = one_destination k.2.to_words t t' (subst (λ x. IsDestination x t) words h.2.to_is) k.2.to_is in
     rw (label, from, to) refl
+one_command name options plains (emit a s) (emit b t) h k =
+    let p = sym h.2 ∙ k.2 in
+    let kind = one_kind a b (ap (λ x. slice_index_or x 0 []) p) in
+    let source : s ≡ t = ap (λ x. slice_index_or x 1 []) p in
+    rw (kind, source) refl
+one_command name options plains (emit a r) (run e g o s) h k = absurd (let bad : 101 ≡ 114 = ap (λ l. slice_index_or l 0 0) (sym h.0 ∙ k.0) in omega arith)
+one_command name options plains (run e g o s) (emit a r) h k = absurd (let bad : 114 ≡ 101 = ap (λ l. slice_index_or l 0 0) (sym h.0 ∙ k.0) in omega arith)
+one_command name options plains (emit a r) (query l f t) h k = absurd (let bad : 101 ≡ 113 = ap (λ l. slice_index_or l 0 0) (sym h.0 ∙ k.0) in omega arith)
+one_command name options plains (query l f t) (emit a r) h k = absurd (let bad : 113 ≡ 101 = ap (λ l. slice_index_or l 0 0) (sym h.0 ∙ k.0) in omega arith)
+one_command name options plains (emit a r) dump h k = absurd (let bad : 101 ≡ 100 = ap (λ l. slice_index_or l 0 0) (sym h.0 ∙ k.0) in omega arith)
+one_command name options plains dump (emit a r) h k = absurd (let bad : 100 ≡ 101 = ap (λ l. slice_index_or l 0 0) (sym h.0 ∙ k.0) in omega arith)
+one_command name options plains (emit a r) parts h k = absurd (let bad : 101 ≡ 112 = ap (λ l. slice_index_or l 0 0) (sym h.0 ∙ k.0) in omega arith)
+one_command name options plains parts (emit a r) h k = absurd (let bad : 112 ≡ 101 = ap (λ l. slice_index_or l 0 0) (sym h.0 ∙ k.0) in omega arith)
 one_command name options plains dump dump h k = refl
 one_command name options plains parts parts h k = refl
 one_command name options plains (run e g o s) (query l f t) h k = absurd (let bad : 114 ≡ 113 = ap (λ l. slice_index_or l 0 0) (sym h.0 ∙ k.0) in omega arith)

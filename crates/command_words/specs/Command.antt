@@ -4,6 +4,8 @@ use Rattle.std.specs.Str.Parse.{digits_value}
 use Rattle.graph_words.specs.Text.{IsDigit, IsLabel, IsVertexNumber, same_name}
 use Rattle.command_words.specs.Words.{Given, Cuts}
 use Rattle.closing_options.specs.declared.RunOptions.{RunOptions}
+use Rattle.command_words.specs.declared.command.GraphKind.{GraphKind}
+use Rattle.command_words.specs.declared.command.GraphKind.TheVariants.{Alias, Null}
 use Rattle.command_words.specs.declared.command.Command.{Command}
 use Rattle.command_words.specs.declared.command.Command.TheVariants as commands
 
@@ -13,6 +15,8 @@ pub data Said : Type 0 where
   run : (edges grammar : List ℕ) (options : RunOptions) (show : Option (List ℕ)) → Said
   -- the label, the source, and the destination
   query : (label : List ℕ) (from : ℕ) (to : Option ℕ) → Said
+  -- what the graph is made for, and the C file
+  emit : (kind : GraphKind) (source : List ℕ) → Said
   dump : Said
   parts : Said
 
@@ -74,11 +78,17 @@ pub record IsQuery (plains : List (List ℕ)) (label : List ℕ) (from : ℕ) (t
   pub from_is : IsVertexNumber from_word from
   pub to_is : IsDestination to_words to
 
+-- the word of a kind of graph
+abbrev pub kind_word : GraphKind → List ℕ
+kind_word Alias = codes "alias"
+kind_word Null = codes "null"
+
 -- what the name of a command says with these options and these plain words: `run EDGES GRAMMAR` with options of a run,
--- `query LABEL U [V]`, `dump` or `parts`
+-- `query LABEL U [V]`, `emit KIND SOURCE`, `dump` or `parts`
 abbrev pub Says : List ℕ → List Given → List (List ℕ) → Said → Type 0
 Says name options plains (run edges grammar numbers show) = (name ≡ codes "run") × (plains ≡ edges ∷ grammar ∷ []) × IsRun options numbers show
 Says name options plains (query label from to) = (name ≡ codes "query") × (options ≡ []) × IsQuery plains label from to
+Says name options plains (emit kind source) = (name ≡ codes "emit") × (options ≡ []) × (plains ≡ kind_word kind ∷ source ∷ [])
 Says name options plains dump = (name ≡ codes "dump") × (options ≡ []) × (plains ≡ [])
 Says name options plains parts = (name ≡ codes "parts") × (options ≡ []) × (plains ≡ [])
 
@@ -111,5 +121,6 @@ RunsWithin _ = Unit {0}
 abbrev pub said : Command → Said
 said (commands.Run edges grammar options show) = run edges.now grammar.now options (option_map (λ s. s.now) show)
 said (commands.Query label from to) = query label.now from to
+said (commands.Emit kind source) = emit kind source.now
 said commands.Dump = dump
 said commands.Parts = parts

@@ -1,6 +1,15 @@
 //! The commands.
 use closing_options::RunOptions;
 
+/// What the graph of a C program is made for.
+#[derive(Clone, Copy, Debug, PartialEq, Eq)]
+pub enum GraphKind {
+    /// `alias`: what may point to the same.
+    Alias,
+    /// `null`: where `NULL` may flow to.
+    Null,
+}
+
 /// A command, with the names that its words give.
 #[derive(Clone, Copy, Debug, PartialEq, Eq)]
 pub enum Command<'a> {
@@ -23,6 +32,13 @@ pub enum Command<'a> {
         from: u32,
         /// The one destination that is asked for, at most 16,777,215.
         to: Option<u32>,
+    },
+    /// `emit KIND SOURCE`: print the edges of a C file.
+    Emit {
+        /// What they are made for.
+        kind: GraphKind,
+        /// The name of the file.
+        source: &'a str,
     },
     /// `dump`: print every edge.
     Dump,

@@ -2,10 +2,11 @@
 ghost use Rattle.std.specs.Prelude.{◌≡◌, ◌≤◌, ◌↔◌, ℕ, List, [], Option, IsTrue, IfOk, IfErr, IfSome, IfNone, All, length, map, option_map, codes};
 ghost use Rattle.graph_words.specs.Text.{IsLabel, IsVertexNumber};
 ghost use Rattle.command_words.specs.declared.fault.WordsFault.TheVariants.{Words};
-ghost use Rattle.command_words.specs.Command.{IsDestination, Said, Says, Reading, RunsWithin, said, value_of};
+ghost use Rattle.command_words.specs.declared.command.GraphKind.{GraphKind as AKind};
+ghost use Rattle.command_words.specs.Command.{IsDestination, Said, Says, Reading, RunsWithin, kind_word, said, value_of};
 ghost use Rattle.command_words.specs.CutWords.{given_said};
 
-use crate::command::Command;
+use crate::command::{Command, GraphKind};
 use crate::cut_words::{CutWords, Given, cut_words};
 use crate::fault::WordsFault;
 use crate::run_numbers::read_numbers;
@@ -93,6 +94,38 @@ fn read_query<'a>(cut: &CutWords<'a>) -> Option<Command<'a>>
     })
 }
 
+/// The kind of graph that a word names.
+fn read_kind(word: &str) -> Option<GraphKind>
+    ensures kind { IfSome result (λ k. word.now ≡ kind_word k) }
+    ensures none { IfNone result ((k : AKind) → word.now ≡ kind_word k → ⊥) }
+{
+    if word == "alias" {
+        return Some(GraphKind::Alias);
+    }
+    if word == "null" {
+        return Some(GraphKind::Null);
+    }
+    None
+}
+
+/// The command of `emit`, and none where the words have no reading.
+fn read_emit<'a>(cut: &CutWords<'a>) -> Option<Command<'a>>
+    ensures says { IfSome result (λ c. Says (codes "emit") cut.now.options cut.now.plain (said c)) }
+    ensures none { IfNone result ((c : Said) → Says (codes "emit") cut.now.options cut.now.plain c → ⊥) }
+{
+    if !cut.options.is_empty() {
+        return None;
+    }
+    let [kind, source] = cut.plain.as_slice() else {
+        return None;
+    };
+    let kind = read_kind(*kind)?;
+    Some(Command::Emit {
+        kind,
+        source: *source,
+    })
+}
+
 /// Whether nothing is cut.
 fn is_bare(cut: &CutWords<'_>) -> bool
     ensures { IsTrue result ↔ ((cut.now.options ≡ []) × (cut.now.plain ≡ [])) }
@@ -110,6 +143,9 @@ fn read_named<'a>(alloc: Global, name: &str, cut: &CutWords<'a>) -> Result<Comma
     }
     if name == "query" {
         return read_query(cut).ok_or(WordsFault::Words);
+    }
+    if name == "emit" {
+        return read_emit(cut).ok_or(WordsFault::Words);
     }
     if name == "dump" && is_bare(cut) {
         return Ok(Command::Dump);

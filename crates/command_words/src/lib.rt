@@ -10,6 +10,6 @@ mod kind;
 mod run_numbers;
 mod run_options;
 
-pub use command::Command;
+pub use command::{Command, GraphKind};
 pub use command_line::{one_reading, read_command};
 pub use fault::WordsFault;
