@@ -1,0 +1,5 @@
+pub mod State
+pub mod Answers
+pub mod Walk
+pub mod Program
+pub mod Functions
