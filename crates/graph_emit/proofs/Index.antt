@@ -11,7 +11,7 @@ use Rattle.emit_list.specs.declared.vertex.VertexForm.TheVariants as form
 use Rattle.emit_list.specs.declared.vertex.TheConstants.{MOST_VERTICES}
 use Rattle.emit_list.specs.Vertices.{made_for}
 use Rattle.graph_emit.specs.State.{Made, is_deref_of, is_address_of, place_of}
-use Rattle.graph_emit.specs.Answers.{IsIndexed}
+use Rattle.graph_emit.specs.Answers.{IsIndexed, at_number}
 
 place_other : (p : VertexForm → Bool) (ms : List Made) (x : Made) → p x.form ≡ false → place_of p (ms ++ x ∷ []) ≡ place_of p ms
 place_other p [] x h = ap (λ t. cond t (Some 0) None) h
@@ -47,10 +47,6 @@ no_address v form.Null h = refl
 no_address v form.Op h = refl
 no_address v form.Call h = refl
 no_address v form.Malloc h = refl
-
--- the value at a number
-abbrev pub at_number : BTreeMap ℕ ℕ → ℕ → Option ℕ
-at_number m v = get_by (nat_cmp v) m
 
 pub indexed_plain : (ms : List Made) (x : Made) (d a : BTreeMap ℕ ℕ) → IsIndexed ms d a → length ms < MOST_VERTICES → made_for x.form ≡ None → IsIndexed (ms ++ x ∷ []) d a
 indexed_plain ms x d a i room h = record {

@@ -4,6 +4,7 @@ use Rattle.std.specs.Prelude.{All, map, reverse, find, is_some, slice_get}
 use Rattle.std.specs.Option.{option_map}
 use Rattle.std.specs.Str.{bytes_eq}
 use Rattle.std.proofs.lemmas.List.{length-map}
+use Rattle.std.proofs.lemmas.Grind.{reverse_onto}
 use Rattle.std.proofs.lemmas.Option.{slice_get-map}
 use Rattle.std.proofs.lemmas.List.Elements.{All-nil, All-cons, All-head, All-tail, All-push}
 use Rattle.io_edge.specs.declared.kinds.InputKind.TheVariants as input
@@ -38,7 +39,7 @@ use Rattle.graph_emit.proofs.Trees.{HasVertex, HasGiven, Always, call_keeps, pla
 
 all_reverse : {X : Type 0} (P : X → Type 0) (xs : List X) → All P xs → All P (reverse xs)
 all_reverse P [] a = a
-all_reverse P (x ∷ xs) a = rw reverse-cons (All-push P (reverse xs) x (all_reverse P xs (All-tail P x xs a)) (All-head P x xs a))
+all_reverse P (x ∷ xs) a = subst (All P) (sym (reverse_onto xs x [])) (All-push P (reverse xs) x (all_reverse P xs (All-tail P x xs a)) (All-head P x xs a))
 
 -- ---- statements, where calls go to functions that can be called
 module _ (known : List Known) (set : Setting) (goes : (name : Name) → Always known Callable (set.goes name)) where
@@ -228,7 +229,7 @@ of_has ms k f h = ap (option_map (λ (v : Vertex). v.form)) (slice_get-map shown
 listed_kept : (s : State) → Kept s.vertices s.edges → IsGraphOfProgram (listed s)
 listed_kept s k =
     let ms = s.vertices in
-    let long : length (map shown ms) ≡ length ms = length-map shown ms in
+    let long : length (map shown ms) ≡ length ms = length-map ms shown in
     record {
       listed = record {
         few = omega (arith, k.few);

@@ -4,13 +4,9 @@ use Rattle.std.specs.Prelude.{IsErrAnd}
 use Rattle.std.proofs.Math.Seq.{take-append_seam, drop-append_seam}
 use Rattle.visible_names.specs.Names.{Bound}
 use Rattle.graph_emit.specs.declared.fault.EmitFault.{EmitFault}
-use Rattle.graph_emit.specs.State.{State, Walk, closed, scoped}
+use Rattle.graph_emit.specs.State.{State, Walk, closed, opened, scoped}
 use Rattle.graph_emit.specs.Answers.{Gives, Refuses, AnswersAs, Answers}
 use Rattle.graph_emit.proofs.Steps.{given, refused, answer_ok, answer_err}
-
--- the scope in which such a step begins
-abbrev pub opened : List Bound → State → State
-opened names s = record { vertices = s.vertices; edges = s.edges; inner = names; outer = s.inner ++ s.outer }
 
 first_part : (a b c d : List Bound) → a ++ b ≡ c ++ d → length b ≡ length d → a ≡ c
 first_part a b c d e n =

@@ -3,3 +3,4 @@ pub mod Answers
 pub mod Walk
 pub mod Program
 pub mod Functions
+pub mod Settings

@@ -33,7 +33,9 @@ known_as name known = option_map (λ (f : Known). f.target) (find (λ (f : Known
 abbrev pub param_made : List Bound → Param → Walk (List Bound)
 param_made before p =
     if is_some (bound_to p.name.bytes before) then refuse p.name.tok input.Repeated
-    else (fresh p.name.tok form.Variable p.name.bytes ⟫ λ t. done (record { name = p.name.bytes; vertex = t } ∷ before))
+    else (
+      fresh p.name.tok form.Variable p.name.bytes ⟫ λ t. done (record { name = p.name.bytes; vertex = t } ∷ before)
+    )
 
 -- the parameters of a function, behind those before
 abbrev pub params_made : List Bound → List Param → Walk (List Bound)
@@ -51,7 +53,8 @@ return_made f =
     else (fresh f.name.tok form.Return f.name.bytes ⟫ λ t. done (Some t))
 
 abbrev pub target_made : Function → Walk Target
-target_made f = params_made [] f.params ⟫ λ params. return_made f ⟫ λ gives. done (record { params = params; gives = gives })
+target_made f =
+    params_made [] f.params ⟫ λ params. return_made f ⟫ λ gives. done (record { params = params; gives = gives })
 
 -- the functions with one more, the last one first
 abbrev pub function_made : List Known → Function → Walk (List Known)

@@ -25,7 +25,8 @@ pub record Made : Type 0 where
   pub name : List ℕ
   pub token : ℕ
 
--- the graph so far, and the visible names: those of the innermost scope, and those of the scopes around it, the last one first
+-- the graph so far, and the visible names: those of the innermost scope, and those of the scopes around it, the last
+-- one first
 pub record State : Type 0 where
   pub vertices : List Made
   pub edges : List EmitEdge
@@ -52,16 +53,29 @@ abbrev pub refuse : {A : Type 0} → Tok → InputKind → Walk A
 refuse tok why s = Err (fault.At tok.line why)
 
 -- ---- vertices and edges
+abbrev pub with_vertex : VertexForm → List ℕ → ℕ → State → State
+with_vertex f name token s = record {
+  vertices = s.vertices ++ record { form = f; name = name; token = token } ∷ [];
+  edges = s.edges;
+  inner = s.inner;
+  outer = s.outer;
+}
+
 -- a new vertex, for this token
 abbrev pub fresh : Tok → VertexForm → List ℕ → Walk ℕ
 fresh tok f name s =
     if nat_lt (length s.vertices) MOST_VERTICES
-    then Ok (record { vertices = s.vertices ++ record { form = f; name = name; token = tok.number } ∷ []; edges = s.edges; inner = s.inner; outer = s.outer }, length s.vertices)
+    then Ok (with_vertex f name tok.number s, length s.vertices)
     else Err (fault.At tok.line input.TooManyVertices)
 
 -- an edge and its inverse
 abbrev pub join : ℕ → EmitLabel → ℕ → Walk (Unit {0})
-join src l dst s = Ok (record { vertices = s.vertices; edges = s.edges ++ (edge src l dst ∷ edge dst (inverse l) src ∷ []); inner = s.inner; outer = s.outer }, tt)
+join src l dst s = Ok (record {
+  vertices = s.vertices;
+  edges = s.edges ++ (edge src l dst ∷ edge dst (inverse l) src ∷ []);
+  inner = s.inner;
+  outer = s.outer;
+}, tt)
 
 abbrev pub form_at : List Made → ℕ → Option VertexForm
 form_at vertices v = option_map (λ (m : Made). m.form) (slice_get vertices v)
@@ -134,7 +148,12 @@ abbrev pub variable : Name → Walk ℕ
 variable name s = found_or (bound_to name.bytes (s.inner ++ s.outer)) name s
 
 abbrev pub bind : List ℕ → ℕ → Walk ℕ
-bind name v s = Ok (record { vertices = s.vertices; edges = s.edges; inner = record { name = name; vertex = v } ∷ s.inner; outer = s.outer }, v)
+bind name v s = Ok (record {
+  vertices = s.vertices;
+  edges = s.edges;
+  inner = record { name = name; vertex = v } ∷ s.inner;
+  outer = s.outer;
+}, v)
 
 -- a new variable, of a name that the innermost scope doesn't have yet
 abbrev pub declare : Name → Walk ℕ
@@ -144,15 +163,21 @@ declare name s =
 
 -- the innermost scope is what it was before
 abbrev pub closed : {A : Type 0} → State → Result (State × A) EmitFault → Result (State × A) EmitFault
-closed before (Ok (s, a)) = Ok (record { vertices = s.vertices; edges = s.edges; inner = before.inner; outer = before.outer }, a)
+closed before (Ok (s, a)) =
+    Ok (record { vertices = s.vertices; edges = s.edges; inner = before.inner; outer = before.outer }, a)
 closed before (Err e) = Err e
+
+-- the state inside a scope that begins with these names
+abbrev pub opened : List Bound → State → State
+opened names s = record { vertices = s.vertices; edges = s.edges; inner = names; outer = s.inner ++ s.outer }
 
 -- a step in a scope of its own, which begins with these names
 abbrev pub scoped : {A : Type 0} → List Bound → Walk A → Walk A
-scoped names w s = closed s (w (record { vertices = s.vertices; edges = s.edges; inner = names; outer = s.inner ++ s.outer }))
+scoped names w s = closed s (w (opened names s))
 
 -- ---- functions
--- where a call goes: the parameters with their vertices, and the vertex of what the function gives, if it gives anything
+-- where a call goes: the parameters with their vertices, and the vertex of what the function gives, if it gives
+-- anything
 pub record Target : Type 0 where
   pub params : List Bound
   pub gives : Option ℕ

@@ -51,7 +51,8 @@ given name (Some r) = fresh name.tok form.Call name.bytes ⟫ λ t. join r label
 
 abbrev pub goes_to : Setting → Name → List (Walk Value) → Target → Walk (Option ℕ)
 goes_to set name args target =
-    if length args == length target.params then (args_flow set.kind args target.params ⟫ λ _. given name target.gives)
+    if length args == length target.params
+    then (args_flow set.kind args target.params ⟫ λ _. given name target.gives)
     else refuse name.tok input.WrongArguments
 
 -- the vertex of a call that is used as an expression
@@ -77,21 +78,26 @@ compare_with value None = done value
 compare_with value (Some right) = operate right
 
 -- ---- expressions, one equation for each form
-abbrev pub call_step : Setting → Call-F CallWalk (Walk ℕ) (Walk ℕ) (Walk Value) OperandWalk OperandWalk (Walk Value) (Walk Value) → CallWalk
+abbrev pub call_step : Setting
+    → Call-F CallWalk (Walk ℕ) (Walk ℕ) (Walk Value) OperandWalk OperandWalk (Walk Value) (Walk Value) → CallWalk
 call_step set (o.Function name args) = record { walk = set.goes name ⟫ goes_to set name args; tok = name.tok }
-call_step set (o.Malloc tok size) = record { walk = size ⟫ λ _. fresh tok form.Malloc [] ⟫ λ t. done (Some t); tok = tok }
+call_step set (o.Malloc tok size) =
+    record { walk = size ⟫ λ _. fresh tok form.Malloc [] ⟫ λ t. done (Some t); tok = tok }
 
-abbrev pub place_step : Place-F CallWalk (Walk ℕ) (Walk ℕ) (Walk Value) OperandWalk OperandWalk (Walk Value) (Walk Value) → Walk ℕ
+abbrev pub place_step :
+    Place-F CallWalk (Walk ℕ) (Walk ℕ) (Walk Value) OperandWalk OperandWalk (Walk Value) (Walk Value) → Walk ℕ
 place_step (o.Place::Name name) = variable name
 place_step (o.Place::Star tok pointer) = pointer ⟫ pointed_to tok
 
-abbrev pub pointer_step : Pointer-F CallWalk (Walk ℕ) (Walk ℕ) (Walk Value) OperandWalk OperandWalk (Walk Value) (Walk Value) → Walk ℕ
+abbrev pub pointer_step :
+    Pointer-F CallWalk (Walk ℕ) (Walk ℕ) (Walk Value) OperandWalk OperandWalk (Walk Value) (Walk Value) → Walk ℕ
 pointer_step (o.Pointer::Name name) = variable name
 pointer_step (o.Pointer::Star tok pointer) = pointer ⟫ pointed_to tok
 pointer_step (o.Pointer::Call call) = value_of call
 pointer_step (o.Pointer::Paren e) = e ⟫ λ value. done value.vertex
 
-abbrev pub unary_step : Unary-F CallWalk (Walk ℕ) (Walk ℕ) (Walk Value) OperandWalk OperandWalk (Walk Value) (Walk Value) → Walk Value
+abbrev pub unary_step :
+    Unary-F CallWalk (Walk ℕ) (Walk ℕ) (Walk Value) OperandWalk OperandWalk (Walk Value) (Walk Value) → Walk Value
 unary_step (o.Place place) = place ⟫ λ v. done (plain v)
 unary_step (o.Address tok place) = place ⟫ λ v. addressed tok v ⟫ λ t. done (plain t)
 unary_step (o.Unary::Call call) = value_of call ⟫ λ t. done (plain t)
@@ -99,41 +105,53 @@ unary_step (o.Number tok) = fresh tok form.Number [] ⟫ λ t. done (plain t)
 unary_step (o.Null tok) = fresh tok form.Null [] ⟫ λ t. done (record { vertex = t; is_null = true })
 unary_step (o.Unary::Paren e) = e
 
-abbrev pub added_step : Added-F CallWalk (Walk ℕ) (Walk ℕ) (Walk Value) OperandWalk OperandWalk (Walk Value) (Walk Value) → OperandWalk
+abbrev pub added_step :
+    Added-F CallWalk (Walk ℕ) (Walk ℕ) (Walk Value) OperandWalk OperandWalk (Walk Value) (Walk Value) → OperandWalk
 added_step a = record { tok = a.tok; walk = a.unary }
 
-abbrev pub compared_step : Compared-F CallWalk (Walk ℕ) (Walk ℕ) (Walk Value) OperandWalk OperandWalk (Walk Value) (Walk Value) → OperandWalk
+abbrev pub compared_step :
+    Compared-F CallWalk (Walk ℕ) (Walk ℕ) (Walk Value) OperandWalk OperandWalk (Walk Value) (Walk Value) → OperandWalk
 compared_step c = record { tok = c.tok; walk = c.sum }
 
-abbrev pub expr_step : Expr-F CallWalk (Walk ℕ) (Walk ℕ) (Walk Value) OperandWalk OperandWalk (Walk Value) (Walk Value) → Walk Value
+abbrev pub expr_step :
+    Expr-F CallWalk (Walk ℕ) (Walk ℕ) (Walk Value) OperandWalk OperandWalk (Walk Value) (Walk Value) → Walk Value
 expr_step e = e.left ⟫ λ value. compare_with value e.right
 
-abbrev pub sum_step : Sum-F CallWalk (Walk ℕ) (Walk ℕ) (Walk Value) OperandWalk OperandWalk (Walk Value) (Walk Value) → Walk Value
+abbrev pub sum_step :
+    Sum-F CallWalk (Walk ℕ) (Walk ℕ) (Walk Value) OperandWalk OperandWalk (Walk Value) (Walk Value) → Walk Value
 sum_step x = x.first ⟫ λ value. operate_all value x.rest
 
 abbrev pub call_walk : Setting → Call → CallWalk
-call_walk set = fold-Call CallWalk (Walk ℕ) (Walk ℕ) (Walk Value) OperandWalk OperandWalk (Walk Value) (Walk Value) (call_step set) place_step pointer_step unary_step added_step compared_step expr_step sum_step
+call_walk set = fold-Call CallWalk (Walk ℕ) (Walk ℕ) (Walk Value) OperandWalk OperandWalk (Walk Value) (Walk Value)
+    (call_step set) place_step pointer_step unary_step added_step compared_step expr_step sum_step
 
 abbrev pub place_walk : Setting → Place → Walk ℕ
-place_walk set = fold-Place CallWalk (Walk ℕ) (Walk ℕ) (Walk Value) OperandWalk OperandWalk (Walk Value) (Walk Value) (call_step set) place_step pointer_step unary_step added_step compared_step expr_step sum_step
+place_walk set = fold-Place CallWalk (Walk ℕ) (Walk ℕ) (Walk Value) OperandWalk OperandWalk (Walk Value) (Walk Value)
+    (call_step set) place_step pointer_step unary_step added_step compared_step expr_step sum_step
 
 abbrev pub pointer_walk : Setting → Pointer → Walk ℕ
-pointer_walk set = fold-Pointer CallWalk (Walk ℕ) (Walk ℕ) (Walk Value) OperandWalk OperandWalk (Walk Value) (Walk Value) (call_step set) place_step pointer_step unary_step added_step compared_step expr_step sum_step
+pointer_walk set = fold-Pointer CallWalk (Walk ℕ) (Walk ℕ) (Walk Value) OperandWalk OperandWalk (Walk Value) (Walk Value)
+    (call_step set) place_step pointer_step unary_step added_step compared_step expr_step sum_step
 
 abbrev pub unary_walk : Setting → Unary → Walk Value
-unary_walk set = fold-Unary CallWalk (Walk ℕ) (Walk ℕ) (Walk Value) OperandWalk OperandWalk (Walk Value) (Walk Value) (call_step set) place_step pointer_step unary_step added_step compared_step expr_step sum_step
+unary_walk set = fold-Unary CallWalk (Walk ℕ) (Walk ℕ) (Walk Value) OperandWalk OperandWalk (Walk Value) (Walk Value)
+    (call_step set) place_step pointer_step unary_step added_step compared_step expr_step sum_step
 
 abbrev pub added_walk : Setting → Added → OperandWalk
-added_walk set = fold-Added CallWalk (Walk ℕ) (Walk ℕ) (Walk Value) OperandWalk OperandWalk (Walk Value) (Walk Value) (call_step set) place_step pointer_step unary_step added_step compared_step expr_step sum_step
+added_walk set = fold-Added CallWalk (Walk ℕ) (Walk ℕ) (Walk Value) OperandWalk OperandWalk (Walk Value) (Walk Value)
+    (call_step set) place_step pointer_step unary_step added_step compared_step expr_step sum_step
 
 abbrev pub compared_walk : Setting → Compared → OperandWalk
-compared_walk set = fold-Compared CallWalk (Walk ℕ) (Walk ℕ) (Walk Value) OperandWalk OperandWalk (Walk Value) (Walk Value) (call_step set) place_step pointer_step unary_step added_step compared_step expr_step sum_step
+compared_walk set = fold-Compared CallWalk (Walk ℕ) (Walk ℕ) (Walk Value) OperandWalk OperandWalk (Walk Value) (Walk Value)
+    (call_step set) place_step pointer_step unary_step added_step compared_step expr_step sum_step
 
 abbrev pub expr_walk : Setting → Expr → Walk Value
-expr_walk set = fold-Expr CallWalk (Walk ℕ) (Walk ℕ) (Walk Value) OperandWalk OperandWalk (Walk Value) (Walk Value) (call_step set) place_step pointer_step unary_step added_step compared_step expr_step sum_step
+expr_walk set = fold-Expr CallWalk (Walk ℕ) (Walk ℕ) (Walk Value) OperandWalk OperandWalk (Walk Value) (Walk Value)
+    (call_step set) place_step pointer_step unary_step added_step compared_step expr_step sum_step
 
 abbrev pub sum_walk : Setting → Sum → Walk Value
-sum_walk set = fold-Sum CallWalk (Walk ℕ) (Walk ℕ) (Walk Value) OperandWalk OperandWalk (Walk Value) (Walk Value) (call_step set) place_step pointer_step unary_step added_step compared_step expr_step sum_step
+sum_walk set = fold-Sum CallWalk (Walk ℕ) (Walk ℕ) (Walk Value) OperandWalk OperandWalk (Walk Value) (Walk Value)
+    (call_step set) place_step pointer_step unary_step added_step compared_step expr_step sum_step
 
 -- ---- declarations
 abbrev pub initial : Setting → Option Expr → ℕ → Walk (Unit {0})
@@ -163,11 +181,13 @@ returned set tok (Some r) (Some e) = expr_walk set e ⟫ λ value. flow set.kind
 
 abbrev pub stmt_step : Setting → Option ℕ → Stmt-F (Walk (Unit {0})) → Walk (Unit {0})
 stmt_step set gives (s.Declared d) = vars_walk set d.vars
-stmt_step set gives (s.Assign place value) = place_walk set place ⟫ λ t. expr_walk set value ⟫ λ v. flow set.kind v t
+stmt_step set gives (s.Assign place value) =
+    place_walk set place ⟫ λ t. expr_walk set value ⟫ λ v. flow set.kind v t
 stmt_step set gives (s.Call call) = (call_walk set call).walk ⟫ λ _. done tt
 stmt_step set gives (s.Block stmts) = scoped [] (in_order stmts)
 stmt_step set gives s.Empty = done tt
-stmt_step set gives (s.If condition body other) = expr_walk set condition ⟫ λ _. body ⟫ λ _. other_walk other
+stmt_step set gives (s.If condition body other) =
+    expr_walk set condition ⟫ λ _. body ⟫ λ _. other_walk other
 stmt_step set gives (s.While condition body) = expr_walk set condition ⟫ λ _. body
 stmt_step set gives (s.Return tok value) = returned set tok gives value
 

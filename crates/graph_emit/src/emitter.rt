@@ -1,11 +1,9 @@
 //! The graph while it is made.
 ghost use Rattle.std.specs.Prelude.{◌≡◌, ◌++◌, ◌∷◌, [], ℕ, None, Some, false, OnOk, OnErr, map, nat_eq, length, ◌≤◌};
-ghost use Rattle.std.specs.Ordering.{nat_cmp};
-ghost use Rattle.std.specs.BTreeMap.{get_by};
 ghost use Rattle.std.specs.Map.{update};
 ghost use Rattle.emit_list.specs.Vertices.{made_for};
-ghost use Rattle.graph_emit.specs.State.{fresh as fresh_step, join as join_step, deref_of as deref_step, address_of as address_step, pointed_to as pointed_step, addressed as addressed_step, flow as flow_step, variable as variable_step, declare as declare_step, bind as bind_step, form_at};
-ghost use Rattle.graph_emit.specs.Answers.{Answers, made};
+ghost use Rattle.graph_emit.specs.State.{fresh as fresh_step, join as join_step, deref_of as deref_step, address_of as address_step, pointed_to as pointed_step, addressed as addressed_step, flow as flow_step, variable as variable_step, declare as declare_step, bind as bind_step, form_at, opened};
+ghost use Rattle.graph_emit.specs.Answers.{Answers, made, at_number};
 
 use crate::fault::{EmitFault, EmitKind};
 use c_tree::{Name, Tok};
@@ -68,7 +66,12 @@ impl<'p> Model for Emitter<'p> {
 
     ghost Value = { State };
 
-    ghost view = { λ e. record { vertices = map made e.spots.items; edges = e.edges.items; inner = e.names.inner; outer = e.names.outer } };
+    ghost view = { λ e. record {
+        vertices = map made e.spots.items;
+        edges = e.edges.items;
+        inner = e.names.inner;
+        outer = e.names.outer
+    } };
 
     ghost invariant = { λ e. IsIndexed (map made e.spots.items) e.derefs e.addresses };
 }
@@ -242,7 +245,7 @@ impl<'p> Emitter<'p> {
 
     /// Begins a scope, and answers how many names stood around the one before.
     pub(crate) fn open(&mut self) -> usize
-        ensures opened { self.new ≡ record { vertices = self.old.vertices; edges = self.old.edges; inner = []; outer = self.old.inner ++ self.old.outer } }
+        ensures opened { self.new ≡ opened [] self.old }
         ensures around { result ≡ length self.old.outer }
     {
         self.names.open()
@@ -298,9 +301,9 @@ fn add_indexed<'p>(
     t: u32,
 ) -> Result<(), AllocError>
     ensures spots { OnOk result (spots.new.items ≡ spots.old.items ++ spot.entry ∷ []) }
-    ensures index { OnOk result ((q : ℕ) → get_by (nat_cmp q) index.new ≡ update nat_eq (λ k. get_by (nat_cmp k) index.old) v (Some t) q) }
+    ensures index { OnOk result ((q : ℕ) → at_number index.new q ≡ update nat_eq (at_number index.old) v (Some t) q) }
     ensures same_spots { OnErr result (spots.new.items ≡ spots.old.items) }
-    ensures same_index { OnErr result ((q : ℕ) → get_by (nat_cmp q) index.new ≡ get_by (nat_cmp q) index.old) }
+    ensures same_index { OnErr result ((q : ℕ) → at_number index.new q ≡ at_number index.old q) }
 {
     spots.reserve(1)?;
     index.insert(v, t)?;

@@ -3,7 +3,7 @@ ghost use Rattle.std.specs.Prelude.{◌≡◌, length, map};
 ghost use Rattle.graph_emit.specs.State.{Setting as ASetting};
 ghost use Rattle.graph_emit.specs.Answers.{Answers};
 ghost use Rattle.graph_emit.specs.Functions.{bound};
-ghost use Rattle.graph_emit.specs.Program.{setting};
+ghost use Rattle.graph_emit.specs.Settings.{seen};
 ghost use Rattle.graph_emit.specs.Walk.{given as given_step, arg_flows as arg_step, args_flow as args_step, operate, call_walk, value_of, place_walk, pointer_walk, unary_walk, added_walk, sum_walk, compared_walk, expr_walk};
 
 use crate::emitter::{Emitter, Value, plain, refusal};
@@ -35,7 +35,7 @@ fn given<'p>(emitter: &mut Emitter<'p>, name: &'p Name, gives: Option<u32>) -> R
 /// An argument flows to its parameter.
 #[cycle(expr)]
 fn arg_flows<'p>(set: &Setting<'_, 'p>, emitter: &mut Emitter<'p>, arg: &'p Expr, t: u32) -> Result<(), EmitFault>
-    ensures { Answers (arg_step set.now.kind (expr_walk (setting set.now.kind set.now.functions.now) arg.now) t) emitter.old result emitter.new }
+    ensures { Answers (arg_step set.now.kind (expr_walk (seen set.now) arg.now) t) emitter.old result emitter.new }
 {
     let value = walk_expr(set, emitter, arg)?;
     emitter.flow(set.kind, value, t)
@@ -50,7 +50,8 @@ fn args_flow<'p>(
     params: &[Param<'p>],
 ) -> Result<(), EmitFault>
     requires { length args.now ≡ length params.now }
-    ensures { Answers (args_step set.now.kind (map (expr_walk (setting set.now.kind set.now.functions.now)) args.now) (map bound params.now)) emitter.old result emitter.new }
+    ensures { Answers (args_step set.now.kind (map (expr_walk (seen set.now)) args.now) (map bound params.now))
+        emitter.old result emitter.new }
 {
     for (i, arg) in args.iter().enumerate() {
         arg_flows(set, emitter, arg, params[i].vertex)?;
@@ -65,7 +66,7 @@ pub(crate) fn walk_call<'p>(
     emitter: &mut Emitter<'p>,
     call: &'p Call,
 ) -> Result<Option<u32>, EmitFault>
-    ensures { Answers (call_walk (setting set.now.kind set.now.functions.now) call.now).walk emitter.old result emitter.new }
+    ensures { Answers (call_walk (seen set.now) call.now).walk emitter.old result emitter.new }
 {
     match call {
         Call::Function { name, args } => {
@@ -97,7 +98,7 @@ fn call_tok(call: &Call) -> Tok
 /// The vertex of a call that is used as an expression.
 #[cycle(expr)]
 fn value_of_call<'p>(set: &Setting<'_, 'p>, emitter: &mut Emitter<'p>, call: &'p Call) -> Result<u32, EmitFault>
-    ensures { Answers (value_of (call_walk (setting set.now.kind set.now.functions.now) call.now)) emitter.old result emitter.new }
+    ensures { Answers (value_of (call_walk (seen set.now) call.now)) emitter.old result emitter.new }
 {
     match walk_call(set, emitter, call)? {
         Some(t) => Ok(t),
@@ -112,7 +113,7 @@ pub(crate) fn walk_place<'p>(
     emitter: &mut Emitter<'p>,
     place: &'p Place,
 ) -> Result<u32, EmitFault>
-    ensures { Answers (place_walk (setting set.now.kind set.now.functions.now) place.now) emitter.old result emitter.new }
+    ensures { Answers (place_walk (seen set.now) place.now) emitter.old result emitter.new }
 {
     match place {
         Place::Name(name) => emitter.variable(name),
@@ -125,7 +126,7 @@ pub(crate) fn walk_place<'p>(
 
 #[cycle(expr)]
 fn walk_pointer<'p>(set: &Setting<'_, 'p>, emitter: &mut Emitter<'p>, pointer: &'p Pointer) -> Result<u32, EmitFault>
-    ensures { Answers (pointer_walk (setting set.now.kind set.now.functions.now) pointer.now) emitter.old result emitter.new }
+    ensures { Answers (pointer_walk (seen set.now) pointer.now) emitter.old result emitter.new }
 {
     match pointer {
         Pointer::Name(name) => emitter.variable(name),
@@ -143,7 +144,7 @@ fn walk_pointer<'p>(set: &Setting<'_, 'p>, emitter: &mut Emitter<'p>, pointer: &
 
 #[cycle(expr)]
 fn walk_unary<'p>(set: &Setting<'_, 'p>, emitter: &mut Emitter<'p>, unary: &'p Unary) -> Result<Value, EmitFault>
-    ensures { Answers (unary_walk (setting set.now.kind set.now.functions.now) unary.now) emitter.old result emitter.new }
+    ensures { Answers (unary_walk (seen set.now) unary.now) emitter.old result emitter.new }
 {
     match unary {
         Unary::Place(place) => {
@@ -177,7 +178,7 @@ fn walk_unary<'p>(set: &Setting<'_, 'p>, emitter: &mut Emitter<'p>, unary: &'p U
 /// Operands from left to right.
 #[cycle(expr)]
 fn walk_sum<'p>(set: &Setting<'_, 'p>, emitter: &mut Emitter<'p>, sum: &'p Sum) -> Result<Value, EmitFault>
-    ensures { Answers (sum_walk (setting set.now.kind set.now.functions.now) sum.now) emitter.old result emitter.new }
+    ensures { Answers (sum_walk (seen set.now) sum.now) emitter.old result emitter.new }
 {
     let mut value = walk_unary(set, emitter, &sum.first)?;
     for added in sum.rest.as_slice() {
@@ -189,7 +190,7 @@ fn walk_sum<'p>(set: &Setting<'_, 'p>, emitter: &mut Emitter<'p>, sum: &'p Sum) 
 /// A further operand; it answers the value of the two.
 #[cycle(expr)]
 fn walk_added<'p>(set: &Setting<'_, 'p>, emitter: &mut Emitter<'p>, added: &'p Added) -> Result<Value, EmitFault>
-    ensures { Answers (operate (added_walk (setting set.now.kind set.now.functions.now) added.now)) emitter.old result emitter.new }
+    ensures { Answers (operate (added_walk (seen set.now) added.now)) emitter.old result emitter.new }
 {
     walk_unary(set, emitter, &added.unary)?;
     let t = emitter.fresh(added.tok, VertexForm::Op, b"")?;
@@ -203,7 +204,7 @@ fn walk_compared<'p>(
     emitter: &mut Emitter<'p>,
     compared: &'p Compared,
 ) -> Result<Value, EmitFault>
-    ensures { Answers (operate (compared_walk (setting set.now.kind set.now.functions.now) compared.now)) emitter.old result emitter.new }
+    ensures { Answers (operate (compared_walk (seen set.now) compared.now)) emitter.old result emitter.new }
 {
     walk_sum(set, emitter, &compared.sum)?;
     let t = emitter.fresh(compared.tok, VertexForm::Op, b"")?;
@@ -217,7 +218,7 @@ pub(crate) fn walk_expr<'p>(
     emitter: &mut Emitter<'p>,
     e: &'p Expr,
 ) -> Result<Value, EmitFault>
-    ensures { Answers (expr_walk (setting set.now.kind set.now.functions.now) e.now) emitter.old result emitter.new }
+    ensures { Answers (expr_walk (seen set.now) e.now) emitter.old result emitter.new }
 {
     let value = walk_sum(set, emitter, &e.left)?;
     match &e.right {

@@ -21,8 +21,8 @@ pub(crate) struct Param<'p> {
     pub(crate) vertex: u32,
 }
 
-/// Where a call of a name goes: the parameters with their vertices, and the vertex of what the function gives, if it
-/// gives anything.
+/// Where a call of a name goes: the parameters with their vertices, and the vertex of what the function gives, if
+/// anything.
 #[derive(Drop)]
 pub(crate) struct Target<'p> {
     pub(crate) name: &'p [u8],
@@ -82,7 +82,8 @@ impl<'p> Functions<'p> {
 
     /// Where a call goes.
     pub(crate) fn goes(&self, name: &Name) -> Result<&Target<'p>, EmitFault>
-        ensures { MatchResult result (λ t. known_as name.now.bytes self.now ≡ Some (target_of t.now)) (λ e. (known_as name.now.bytes self.now ≡ None) × (e ≡ EmitFault.At name.now.tok.line Undeclared)) }
+        ensures { MatchResult result (λ t. known_as name.now.bytes self.now ≡ Some (target_of t.now))
+            (λ e. (known_as name.now.bytes self.now ≡ None) × (e ≡ EmitFault.At name.now.tok.line Undeclared)) }
     {
         match self.numbers.find(name.bytes.as_slice()) {
             Some(at) => Ok(&self.targets[at as usize]),
@@ -97,7 +98,8 @@ fn params_made<'p>(
     emitter: &mut Emitter<'p>,
     params: &'p [c_tree::Param],
 ) -> Result<Vec<Param<'p>>, EmitFault>
-    ensures { AnswersAs (λ made. map bound_of made.items) (params_step [] params.now) emitter.old result emitter.new }
+    ensures { AnswersAs (λ made. map bound_of made.items) (params_step [] params.now)
+        emitter.old result emitter.new }
 {
     let mut made = Vec::new(alloc);
     let mut names = VisibleNames::new(alloc);

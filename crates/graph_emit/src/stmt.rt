@@ -3,7 +3,7 @@ ghost use Rattle.std.specs.Prelude.{◌≡◌, ◌++◌, [], OnOk, map, reverse}
 ghost use Rattle.graph_emit.specs.State.{scoped};
 ghost use Rattle.graph_emit.specs.Answers.{Answers};
 ghost use Rattle.graph_emit.specs.Functions.{bound, target as target_of};
-ghost use Rattle.graph_emit.specs.Program.{setting};
+ghost use Rattle.graph_emit.specs.Settings.{seen};
 ghost use Rattle.graph_emit.specs.Walk.{var_walk, vars_walk, returned, in_order, stmt_walk, body_walk};
 
 use crate::emitter::{Emitter, refusal};
@@ -20,7 +20,7 @@ pub(crate) fn walk_vars<'p>(
     emitter: &mut Emitter<'p>,
     vars: &'p [Var],
 ) -> Result<(), EmitFault>
-    ensures { Answers (vars_walk (setting set.now.kind set.now.functions.now) vars.now) emitter.old result emitter.new }
+    ensures { Answers (vars_walk (seen set.now) vars.now) emitter.old result emitter.new }
 {
     for var in vars {
         walk_var(set, emitter, var)?;
@@ -30,7 +30,7 @@ pub(crate) fn walk_vars<'p>(
 
 /// A variable is made, and then its initial value flows to it.
 fn walk_var<'p>(set: &Setting<'_, 'p>, emitter: &mut Emitter<'p>, var: &'p Var) -> Result<(), EmitFault>
-    ensures { Answers (var_walk (setting set.now.kind set.now.functions.now) var.now) emitter.old result emitter.new }
+    ensures { Answers (var_walk (seen set.now) var.now) emitter.old result emitter.new }
 {
     let t = emitter.declare(&var.name)?;
     let Some(e) = &var.value else {
@@ -48,7 +48,7 @@ fn walk_return<'p>(
     gives: Option<u32>,
     value: &'p Option<Expr>,
 ) -> Result<(), EmitFault>
-    ensures { Answers (returned (setting set.now.kind set.now.functions.now) tok gives value.now) emitter.old result emitter.new }
+    ensures { Answers (returned (seen set.now) tok gives value.now) emitter.old result emitter.new }
 {
     let Some(e) = value else {
         return Ok(());
@@ -68,7 +68,7 @@ fn walk_stmts<'p>(
     gives: Option<u32>,
     stmts: &'p [Stmt],
 ) -> Result<(), EmitFault>
-    ensures { Answers (in_order (map (stmt_walk (setting set.now.kind set.now.functions.now) gives) stmts.now)) emitter.old result emitter.new }
+    ensures { Answers (in_order (map (stmt_walk (seen set.now) gives) stmts.now)) emitter.old result emitter.new }
 {
     for stmt in stmts {
         walk_stmt(set, emitter, gives, stmt)?;
@@ -84,7 +84,8 @@ fn walk_block<'p>(
     gives: Option<u32>,
     stmts: &'p [Stmt],
 ) -> Result<(), EmitFault>
-    ensures { Answers (scoped [] (in_order (map (stmt_walk (setting set.now.kind set.now.functions.now) gives) stmts.now))) emitter.old result emitter.new }
+    ensures { Answers (scoped [] (in_order (map (stmt_walk (seen set.now) gives) stmts.now)))
+        emitter.old result emitter.new }
 {
     let around = emitter.open();
     walk_stmts(set, emitter, gives, stmts)?;
@@ -99,7 +100,7 @@ fn walk_stmt<'p>(
     gives: Option<u32>,
     stmt: &'p Stmt,
 ) -> Result<(), EmitFault>
-    ensures { Answers (stmt_walk (setting set.now.kind set.now.functions.now) gives stmt.now) emitter.old result emitter.new }
+    ensures { Answers (stmt_walk (seen set.now) gives stmt.now) emitter.old result emitter.new }
 {
     match stmt {
         Stmt::Declared(d) => walk_vars(set, emitter, d.vars.as_slice()),
@@ -136,7 +137,12 @@ fn walk_stmt<'p>(
 
 /// The names of parameters.
 fn bind_params<'p>(emitter: &mut Emitter<'p>, params: &[Param<'p>]) -> Result<(), AllocError>
-    ensures { OnOk result (emitter.new ≡ record { vertices = emitter.old.vertices; edges = emitter.old.edges; inner = reverse (map bound params.now) ++ emitter.old.inner; outer = emitter.old.outer }) }
+    ensures { OnOk result (emitter.new ≡ record {
+        vertices = emitter.old.vertices;
+        edges = emitter.old.edges;
+        inner = reverse (map bound params.now) ++ emitter.old.inner;
+        outer = emitter.old.outer
+    }) }
 {
     for param in params {
         emitter.bind(param.name, param.vertex)?;
@@ -151,7 +157,7 @@ pub(crate) fn walk_body<'p>(
     body: &'p [Stmt],
     target: &Target<'p>,
 ) -> Result<(), EmitFault>
-    ensures { Answers (body_walk (setting set.now.kind set.now.functions.now) body.now (target_of target.now)) emitter.old result emitter.new }
+    ensures { Answers (body_walk (seen set.now) body.now (target_of target.now)) emitter.old result emitter.new }
 {
     let around = emitter.open();
     bind_params(emitter, target.params.as_slice())?;
