@@ -2,6 +2,7 @@ pub mod Steps
 pub mod Scopes
 pub mod Layers
 pub mod Index
+pub mod Emitting
 pub mod Forms
 pub mod Kept
 pub mod Keeps

@@ -121,35 +121,35 @@ abbrev pub sum_step :
     Sum-F CallWalk (Walk ℕ) (Walk ℕ) (Walk Value) OperandWalk OperandWalk (Walk Value) (Walk Value) → Walk Value
 sum_step x = x.first ⟫ λ value. operate_all value x.rest
 
-abbrev pub call_walk : Setting → Call → CallWalk
+unfoldable pub call_walk : Setting → Call → CallWalk
 call_walk set = fold-Call CallWalk (Walk ℕ) (Walk ℕ) (Walk Value) OperandWalk OperandWalk (Walk Value) (Walk Value)
     (call_step set) place_step pointer_step unary_step added_step compared_step expr_step sum_step
 
-abbrev pub place_walk : Setting → Place → Walk ℕ
+unfoldable pub place_walk : Setting → Place → Walk ℕ
 place_walk set = fold-Place CallWalk (Walk ℕ) (Walk ℕ) (Walk Value) OperandWalk OperandWalk (Walk Value) (Walk Value)
     (call_step set) place_step pointer_step unary_step added_step compared_step expr_step sum_step
 
-abbrev pub pointer_walk : Setting → Pointer → Walk ℕ
+unfoldable pub pointer_walk : Setting → Pointer → Walk ℕ
 pointer_walk set = fold-Pointer CallWalk (Walk ℕ) (Walk ℕ) (Walk Value) OperandWalk OperandWalk (Walk Value) (Walk Value)
     (call_step set) place_step pointer_step unary_step added_step compared_step expr_step sum_step
 
-abbrev pub unary_walk : Setting → Unary → Walk Value
+unfoldable pub unary_walk : Setting → Unary → Walk Value
 unary_walk set = fold-Unary CallWalk (Walk ℕ) (Walk ℕ) (Walk Value) OperandWalk OperandWalk (Walk Value) (Walk Value)
     (call_step set) place_step pointer_step unary_step added_step compared_step expr_step sum_step
 
-abbrev pub added_walk : Setting → Added → OperandWalk
+unfoldable pub added_walk : Setting → Added → OperandWalk
 added_walk set = fold-Added CallWalk (Walk ℕ) (Walk ℕ) (Walk Value) OperandWalk OperandWalk (Walk Value) (Walk Value)
     (call_step set) place_step pointer_step unary_step added_step compared_step expr_step sum_step
 
-abbrev pub compared_walk : Setting → Compared → OperandWalk
+unfoldable pub compared_walk : Setting → Compared → OperandWalk
 compared_walk set = fold-Compared CallWalk (Walk ℕ) (Walk ℕ) (Walk Value) OperandWalk OperandWalk (Walk Value) (Walk Value)
     (call_step set) place_step pointer_step unary_step added_step compared_step expr_step sum_step
 
-abbrev pub expr_walk : Setting → Expr → Walk Value
+unfoldable pub expr_walk : Setting → Expr → Walk Value
 expr_walk set = fold-Expr CallWalk (Walk ℕ) (Walk ℕ) (Walk Value) OperandWalk OperandWalk (Walk Value) (Walk Value)
     (call_step set) place_step pointer_step unary_step added_step compared_step expr_step sum_step
 
-abbrev pub sum_walk : Setting → Sum → Walk Value
+unfoldable pub sum_walk : Setting → Sum → Walk Value
 sum_walk set = fold-Sum CallWalk (Walk ℕ) (Walk ℕ) (Walk Value) OperandWalk OperandWalk (Walk Value) (Walk Value)
     (call_step set) place_step pointer_step unary_step added_step compared_step expr_step sum_step
 
@@ -191,7 +191,7 @@ stmt_step set gives (s.If condition body other) =
 stmt_step set gives (s.While condition body) = expr_walk set condition ⟫ λ _. body
 stmt_step set gives (s.Return tok value) = returned set tok gives value
 
-abbrev pub stmt_walk : Setting → Option ℕ → Stmt → Walk (Unit {0})
+unfoldable pub stmt_walk : Setting → Option ℕ → Stmt → Walk (Unit {0})
 stmt_walk set gives = fold-Stmt (Walk (Unit {0})) (stmt_step set gives)
 
 -- a body, in the scope of the parameters

@@ -1,4 +1,5 @@
 //! The walk of declarations, statements and functions.
+#![tactic(none)]
 ghost use Rattle.std.specs.Prelude.{◌≡◌, ◌++◌, [], OnOk, map, reverse};
 ghost use Rattle.graph_emit.specs.State.{scoped};
 ghost use Rattle.graph_emit.specs.Answers.{Answers};
