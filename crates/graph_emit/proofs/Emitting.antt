@@ -26,13 +26,6 @@ use Rattle.graph_emit.specs.Answers.{Gives, Refuses, AnswersAs, Answers, made, a
 use Rattle.graph_emit.proofs.Steps.{given, refused, answer_ok, answer_err, GoesOn, goes, goes_by, stops_by, ends_done}
 use Rattle.graph_emit.proofs.Index.{indexed_plain, indexed_deref, indexed_address}
 
-pub state_is : (a b : State) → a.vertices ≡ b.vertices → a.edges ≡ b.edges → a.inner ≡ b.inner → a.outer ≡ b.outer → a ≡ b
-state_is a b v e i o =
-    ap (λ x. let s : State = record { vertices = x; edges = a.edges; inner = a.inner; outer = a.outer } in s) v
-    ∙ ap (λ x. let s : State = record { vertices = b.vertices; edges = x; inner = a.inner; outer = a.outer } in s) e
-    ∙ ap (λ x. let s : State = record { vertices = b.vertices; edges = b.edges; inner = x; outer = a.outer } in s) i
-    ∙ ap (λ x. let s : State = record { vertices = b.vertices; edges = b.edges; inner = b.inner; outer = x } in s) o
-
 -- ---- room
 pub fresh_room : (tok : Tok) (f : VertexForm) (name : List ℕ) (s : State) → length s.vertices < MOST_VERTICES → fresh tok f name s ≡ Ok (with_vertex f name tok.number s, length s.vertices)
 fresh_room tok f name s room = ap (λ b. cond b (Ok (with_vertex f name tok.number s, length s.vertices)) (Err (fault.At tok.line input.TooManyVertices))) (lt-ltb (length s.vertices) MOST_VERTICES room)
@@ -54,8 +47,8 @@ spots_plain ss ts x d a e i room plain = subst (λ ms. IsIndexed ms d a) (sym (s
 
 -- ---- a vertex that is found by another
 pub none_found : (r : Option (Bor ℕ)) (o : Option ℕ) → option_copied r ≡ o → ((t : Bor ℕ) → r ≡ Some t → ⊥) → o ≡ None
-none_found None o e no = sym e
-none_found (Some t) o e no = absurd (no t refl)
+none_found None o e missing = sym e
+none_found (Some t) o e missing = absurd (missing t refl)
 
 -- no vertex is the dereference of this one, and none can be made
 pub deref_full : (s : State) (tok : Tok) (v : ℕ) → place_of (is_deref_of v) s.vertices ≡ None → MOST_VERTICES ≤ length s.vertices → deref_of tok v s ≡ Err (fault.At tok.line input.TooManyVertices)
@@ -76,31 +69,31 @@ fresh_given tok f s t n room e is = record {
 pub deref_new : (s t u : State) (tok : Tok) (v n : ℕ) (a : Unit {0}) → place_of (is_deref_of v) s.vertices ≡ None → length s.vertices < MOST_VERTICES → n ≡ length s.vertices → with_vertex (form.Deref v) [] tok.number s ≡ t → Answers (join v label.D n) t (Ok a) u → Answers (deref_of tok v) s (Ok n) u
 deref_new s t u tok v n a none room e is joined =
     let start : GoesOn (deref_of tok v) s (fresh tok (form.Deref v) [] ⟫ λ t. join v label.D t ⟫ λ _. done t) s = record { same = ap (λ o. deref_or_new o tok v s) none; around = refl } in
-    ends_done (goes_by (goes start (fresh_given tok (form.Deref v) s t n room e is)) joined)
+    ends_done (goes_by _ (goes _ start (fresh_given tok (form.Deref v) s t n room e is)) joined)
 
 pub address_new : (s t u : State) (tok : Tok) (v n : ℕ) (a : Unit {0}) → place_of (is_address_of v) s.vertices ≡ None → length s.vertices < MOST_VERTICES → n ≡ length s.vertices → with_vertex (form.Address v) [] tok.number s ≡ t → Answers (join n label.D v) t (Ok a) u → Answers (address_of tok v) s (Ok n) u
 address_new s t u tok v n a none room e is joined =
     let start : GoesOn (address_of tok v) s (fresh tok (form.Address v) [] ⟫ λ t. join t label.D v ⟫ λ _. done t) s = record { same = ap (λ o. address_or_new o tok v s) none; around = refl } in
-    ends_done (goes_by (goes start (fresh_given tok (form.Address v) s t n room e is)) joined)
+    ends_done (goes_by _ (goes _ start (fresh_given tok (form.Address v) s t n room e is)) joined)
 
 -- ---- declarations
 -- a name that the innermost scope doesn't have yet
 declares : (name : Name) (bytes : List ℕ) (inner : List Bound) (s : State) (found : Bool) → bytes ≡ name.bytes → inner ≡ s.inner → found ≡ is_some (bound_to bytes inner) → found ≡ false → GoesOn (declare name) s (fresh name.tok form.Variable bytes ⟫ bind bytes) s
-declares name bytes inner s found b i is no =
-    let new : is_some (bound_to name.bytes s.inner) ≡ false = ap (λ n. is_some (bound_to n s.inner)) (sym b) ∙ ap (λ l. is_some (bound_to bytes l)) (sym i) ∙ sym is ∙ no in
+declares name bytes inner s found b i is missing =
+    let new : is_some (bound_to name.bytes s.inner) ≡ false = ap (λ n. is_some (bound_to n s.inner)) (sym b) ∙ ap (λ l. is_some (bound_to bytes l)) (sym i) ∙ sym is ∙ missing in
     let w : List ℕ → Walk ℕ = λ n. fresh name.tok form.Variable n ⟫ bind n in
     record { same = ap (λ t. cond t (Err (fault.At name.tok.line input.Repeated)) (w name.bytes s)) new ∙ ap (λ n. w n s) (sym b); around = refl }
 
 pub declare_stops : (name : Name) (bytes : List ℕ) (inner : List Bound) (s t u : State) (found : Bool) (e : EmitFault) (r : Result ℕ EmitFault) → bytes ≡ name.bytes → inner ≡ s.inner → found ≡ is_some (bound_to bytes inner) → found ≡ false
     → Answers (fresh name.tok form.Variable bytes) s (Err e) t → IsErrAnd r (λ x. x ≡ e) → Answers (declare name) s r u
-declare_stops name bytes inner s t u found e r b i is no h err = stops_by r (declares name bytes inner s found b i is no) h err
+declare_stops name bytes inner s t u found e r b i is missing h err = stops_by _ r (declares name bytes inner s found b i is missing) h err
 
 abbrev with_name : List ℕ → ℕ → State → State
 with_name n v s = record { vertices = s.vertices; edges = s.edges; inner = (let b : Bound = record { name = n; vertex = v } in b) ∷ s.inner; outer = s.outer }
 
 pub declare_ends : (name : Name) (bytes : List ℕ) (inner : List Bound) (s t u : State) (found : Bool) (v : ℕ) → bytes ≡ name.bytes → inner ≡ s.inner → found ≡ is_some (bound_to bytes inner) → found ≡ false
     → Answers (fresh name.tok form.Variable bytes) s (Ok v) t → bind bytes v t ≡ Ok (u, v) → Answers (declare name) s (Ok v) u
-declare_ends name bytes inner s t u found v b i is no h bound =
-    let g = goes_by (declares name bytes inner s found b i is no) h in
+declare_ends name bytes inner s t u found v b i is missing h bound =
+    let g = goes_by _ (declares name bytes inner s found b i is missing) h in
     let left : with_name bytes v t ≡ u = cc in
     answer_ok (record { walked = g.same ∙ bound; around = ap (λ (s : State). s.outer) (sym left) ∙ g.around })

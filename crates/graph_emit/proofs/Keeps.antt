@@ -79,10 +79,14 @@ pub record Leaves {A : Type 0} (known : List Known) (Q : List Made → A → Typ
 pub record Keeps {A : Type 0} (known : List Known) (base : List Made) (Q : List Made → A → Type 0) (w : Walk A) : Type 0 where
   pub leaves : (s : State) → Good known s → Grows base s.vertices → (a : A) (t : State) → w s ≡ Ok (t, a) → Leaves known Q s a t
 
+pair_of : {A : Type 0} (x y : State × A) → (let r : Result (State × A) EmitFault = Ok x in r) ≡ Ok y → x ≡ y
+pair_of x y e = cc
+
 pub leaves_as : {A : Type 0} (known : List Known) (Q : List Made → A → Type 0) (s t u : State) (a b : A) → done a t ≡ Ok (u, b) → Leaves known Q s a t → Leaves known Q s b u
 leaves_as known Q s t u a b e l =
-    let same : t ≡ u = cc in
-    let value : a ≡ b = cc in
+    let both = pair_of (t, a) (u, b) e in
+    let same : t ≡ u = ap (λ x. x.0) both in
+    let value : a ≡ b = ap (λ x. x.1) both in
     subst (λ t. Leaves known Q s b t) same (subst (λ a. Leaves known Q s a t) value l)
 
 pub keeps_done : {A : Type 0} (known : List Known) (base : List Made) (Q : List Made → A → Type 0) (a : A) → ((ms : List Made) → Grows base ms → Q ms a) → Keeps known base Q (done a)
@@ -270,10 +274,10 @@ pointed_keeps known base tok v at = record {
 
 -- a place that is no dereference is a variable
 address_inside : (known : List Known) (tok : Tok) (v : ℕ) (s : State) (o : Option VertexForm) → form_at s.vertices v ≡ o → ((w : ℕ) → o ≡ Some (form.Deref w) → ⊥) → Good known s → IsPlace s.vertices v → (a : ℕ) (t : State) → address_of tok v s ≡ Ok (t, a) → Leaves known Inside s a t
-address_inside known tok v s o is no good (inl h) a t e =
+address_inside known tok v s o is other good (inl h) a t e =
     let l = address_made known tok v s (place_of (is_address_of v) s.vertices) refl good h a t e in
     record { good = l.good; grows = l.grows; value = has_within t.vertices a (form.Address v) l.value }
-address_inside known tok v s o is no good (inr (w, h)) a t e = absurd (no w (sym is ∙ h))
+address_inside known tok v s o is other good (inr (w, h)) a t e = absurd (other w (sym is ∙ h))
 
 addressed_made : (known : List Known) (tok : Tok) (v : ℕ) (s : State) (o : Option VertexForm) → form_at s.vertices v ≡ o → Good known s → IsPlace s.vertices v → (a : ℕ) (t : State) → addressed_by o tok v s ≡ Ok (t, a) → Leaves known Inside s a t
 addressed_made known tok v s (Some (form.Deref w)) is good at a t e =
@@ -300,13 +304,14 @@ flow_keeps known base k value t a b =
     ]
 
 -- a name that is found is that of a variable
+found_first : (ms : List Made) (name : List ℕ) (b : Bound) (bs : List Bound) (v : ℕ) → Has ms b.vertex form.Variable → (bound_to name bs ≡ Some v → Has ms v form.Variable) → (t : Bool)
+    → option_map (λ (b : Bound). b.vertex) (cond t (Some b) (find (λ (b : Bound). bytes_eq b.name name) bs)) ≡ Some v → Has ms v form.Variable
+found_first ms name b bs v here more true is = let at : b.vertex ≡ v = cc in subst (λ v. Has ms v form.Variable) at here
+found_first ms name b bs v here more false is = more is
+
 found_name : (ms : List Made) (name : List ℕ) (names : List Bound) (v : ℕ) → All (IsVariable ms) names → bound_to name names ≡ Some v → Has ms v form.Variable
 found_name ms name [] v all h = absurd (cc)
-found_name ms name (b ∷ bs) v all h = first (bytes_eq b.name name) refl h
-  where
-    first : (t : Bool) → bytes_eq b.name name ≡ t → option_map (λ (b : Bound). b.vertex) (cond t (Some b) (find (λ (b : Bound). bytes_eq b.name name) bs)) ≡ Some v → Has ms v form.Variable
-    first true is h = let at : b.vertex ≡ v = cc in subst (λ v. Has ms v form.Variable) at (All-head (IsVariable ms) b bs all)
-    first false is h = found_name ms name bs v (All-tail (IsVariable ms) b bs all) h
+found_name ms name (b ∷ bs) v all h = found_first ms name b bs v (All-head (IsVariable ms) b bs all) (λ h. found_name ms name bs v (All-tail (IsVariable ms) b bs all) h) (bytes_eq b.name name) h
 
 variable_made : (known : List Known) (name : Name) (s : State) (o : Option ℕ) → bound_to name.bytes (s.inner ++ s.outer) ≡ o → Good known s → (a : ℕ) (t : State) → found_or o name s ≡ Ok (t, a) → Leaves known (IsOf form.Variable) s a t
 variable_made known name s (Some v) is good a t e =
@@ -349,7 +354,10 @@ declare_keeps known base name = record {
 
 -- ---- scopes
 closed_of : {A : Type 0} (before : State) (r : Result (State × A) EmitFault) (t : State) (a : A) → closed before r ≡ Ok (t, a) → (u : State) × ((r ≡ Ok (u, a)) × (t ≡ record { vertices = u.vertices; edges = u.edges; inner = before.inner; outer = before.outer }))
-closed_of before (Ok (u, b)) t a e = (u, (let same : b ≡ a = cc in ap (λ b. Ok (u, b)) same, let left : record { vertices = u.vertices; edges = u.edges; inner = before.inner; outer = before.outer } ≡ t = cc in sym left))
+closed_of before (Ok (u, b)) t a e =
+    let left : State = record { vertices = u.vertices; edges = u.edges; inner = before.inner; outer = before.outer } in
+    let both = pair_of (left, b) (t, a) e in
+    (u, (ap (λ b. Ok (u, b)) (ap (λ x. x.1) both), sym (ap (λ x. x.0) both)))
 closed_of before (Err f) t a e = absurd (cc)
 
 pub scoped_keeps : {A : Type 0} (known : List Known) (base : List Made) (Q : List Made → A → Type 0) (names : List Bound) (w : Walk A) → All (IsVariable base) names → Keeps known base Q w → Keeps known base Q (scoped names w)

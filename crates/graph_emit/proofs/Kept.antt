@@ -50,24 +50,27 @@ back label.N = refl
 back label.MinusN = refl
 
 first_in : (x y : EmitEdge) → Contains (x ∷ y ∷ []) x
-first_in x y = (0, (omega arith, refl))
+first_in x y = (0, omega arith, refl)
 
 second_in : (x y : EmitEdge) → Contains (x ∷ y ∷ []) y
-second_in x y = (1, (omega arith, refl))
+second_in x y = (1, omega arith, refl)
 
 of_pair : (x y z : EmitEdge) → Contains (x ∷ y ∷ []) z → (x ≡ z) ⊎ (y ≡ z)
-of_pair x y z (zero, (far, is)) = inl is
-of_pair x y z (suc zero, (far, is)) = inr is
-of_pair x y z (suc (suc k), (far, is)) = absurd (omega arith)
+of_pair x y z (zero, far, is) = inl is
+of_pair x y z (suc zero, far, is) = inr is
+of_pair x y z (suc (suc k), far, is) = absurd (omega arith)
+
+-- an edge the other way round
+abbrev turned : EmitEdge → EmitEdge
+turned e = edge e.dst (inverse e.label) e.src
 
 both_inverses : (src dst : ℕ) (l : EmitLabel) (s d : ℕ) (m : EmitLabel) → Contains (both src l dst) (edge s m d) → Contains (both src l dst) (edge d (inverse m) s)
 both_inverses src dst l s d m h = elim (of_pair (edge src l dst) (edge dst (inverse l) src) (edge s m d) h) [
   | inl e ↦
-      let same : edge dst (inverse l) src ≡ edge d (inverse m) s = cc in
+      let same : edge dst (inverse l) src ≡ edge d (inverse m) s = ap turned e in
       subst (λ x. Contains (both src l dst) x) same (second_in (edge src l dst) (edge dst (inverse l) src))
   | inr e ↦
-      let turned = back l in
-      let same : edge src l dst ≡ edge d (inverse m) s = cc in
+      let same : edge src l dst ≡ edge d (inverse m) s = ap (λ l. edge src l dst) (sym (back l)) ∙ ap turned e in
       subst (λ x. Contains (both src l dst) x) same (first_in (edge src l dst) (edge dst (inverse l) src))
 ]
 

@@ -13,8 +13,8 @@ use Rattle.c_tree.specs.declared.tree.Pointer.TheVariants as pointer
 use Rattle.c_tree.specs.declared.tree.Unary.{Unary, fold-roll-Unary}
 use Rattle.c_tree.specs.declared.tree.Unary.TheVariants as unary
 use Rattle.c_tree.specs.declared.tree.Added.{Added, fold_out-Added}
-use Rattle.c_tree.specs.declared.tree.Compared.{Compared, fold_out-Compared}
-use Rattle.c_tree.specs.declared.tree.Sum.{Sum, fold_out-Sum}
+use Rattle.c_tree.specs.declared.tree.Compared.{Compared, Compared-F, out-Compared, roll-Compared, roll-out-Compared, fold-roll-Compared}
+use Rattle.c_tree.specs.declared.tree.Sum.{Sum, Sum-F, out-Sum, roll-Sum, roll-out-Sum, fold-roll-Sum}
 use Rattle.c_tree.specs.declared.tree.Expr.{Expr, out-Expr, roll-Expr, roll-out-Expr, fold-roll-Expr}
 use Rattle.c_tree.specs.declared.tree.Declaration.{Declaration}
 use Rattle.c_tree.specs.declared.tree.Stmt.{Stmt, fold-roll-Stmt}
@@ -85,27 +85,38 @@ pub added_is : (set : Setting) (a : Added) → added_walk set a ≡ record { tok
 unfolding call_walk place_walk pointer_walk unary_walk added_walk compared_walk expr_walk sum_walk
 added_is set a = fold_out-Added CallWalk (Walk ℕ) (Walk ℕ) (Walk Value) OperandWalk OperandWalk (Walk Value) (Walk Value) (call_step set) place_step pointer_step unary_step added_step compared_step expr_step sum_step a
 
-pub compared_is : (set : Setting) (c : Compared) → compared_walk set c ≡ record { tok = c.tok; walk = sum_walk set c.sum }
-unfolding call_walk place_walk pointer_walk unary_walk added_walk compared_walk expr_walk sum_walk
-compared_is set c = fold_out-Compared CallWalk (Walk ℕ) (Walk ℕ) (Walk Value) OperandWalk OperandWalk (Walk Value) (Walk Value) (call_step set) place_step pointer_step unary_step added_step compared_step expr_step sum_step c
+abbrev pub ComparedLayer : Type 0
+ComparedLayer = Compared-F Call Place Pointer Unary Added Compared Expr Sum
 
-pub sum_is : (set : Setting) (x : Sum) → sum_walk set x ≡ (unary_walk set x.first ⟫ λ value. operate_all value (map (added_walk set) x.rest))
+abbrev pub SumLayer : Type 0
+SumLayer = Sum-F Call Place Pointer Unary Added Compared Expr Sum
+
+pub compared_is : (set : Setting) (x : ComparedLayer) → compared_walk set (roll-Compared x) ≡ record { tok = x.tok; walk = sum_walk set x.sum }
 unfolding call_walk place_walk pointer_walk unary_walk added_walk compared_walk expr_walk sum_walk
-sum_is set x = fold_out-Sum CallWalk (Walk ℕ) (Walk ℕ) (Walk Value) OperandWalk OperandWalk (Walk Value) (Walk Value) (call_step set) place_step pointer_step unary_step added_step compared_step expr_step sum_step x
+compared_is set x = fold-roll-Compared CallWalk (Walk ℕ) (Walk ℕ) (Walk Value) OperandWalk OperandWalk (Walk Value) (Walk Value) (call_step set) place_step pointer_step unary_step added_step compared_step expr_step sum_step x
+
+pub compared_at : (set : Setting) (c : Compared) → compared_walk set c ≡ record { tok = (out-Compared c).tok; walk = sum_walk set (out-Compared c).sum }
+compared_at set c = ap (compared_walk set) (sym (roll-out-Compared c)) ∙ compared_is set (out-Compared c)
+
+pub sum_is : (set : Setting) (x : SumLayer) → sum_walk set (roll-Sum x) ≡ (unary_walk set x.first ⟫ λ value. operate_all value (map (added_walk set) x.rest))
+unfolding call_walk place_walk pointer_walk unary_walk added_walk compared_walk expr_walk sum_walk
+sum_is set x = fold-roll-Sum CallWalk (Walk ℕ) (Walk ℕ) (Walk Value) OperandWalk OperandWalk (Walk Value) (Walk Value) (call_step set) place_step pointer_step unary_step added_step compared_step expr_step sum_step x
+
+pub sum_at : (set : Setting) (x : Sum) → sum_walk set x ≡ (unary_walk set (out-Sum x).first ⟫ λ value. operate_all value (map (added_walk set) (out-Sum x).rest))
+sum_at set x = ap (sum_walk set) (sym (roll-out-Sum x)) ∙ sum_is set (out-Sum x)
 
 -- what stands behind the left side
 abbrev pub right_walk : Setting → Option Compared → Value → Walk Value
 right_walk set None value = done value
 right_walk set (Some c) value = operate (compared_walk set c)
 
-expr_halves : (set : Setting) (left : Sum) (right : Option Compared) → expr_walk set (roll-Expr (record { left = left; right = right })) ≡ (sum_walk set left ⟫ right_walk set right)
+pub expr_is : (set : Setting) (left : Sum) (right : Option Compared) → expr_walk set (roll-Expr (record { left = left; right = right })) ≡ (sum_walk set left ⟫ right_walk set right)
 unfolding call_walk place_walk pointer_walk unary_walk added_walk compared_walk expr_walk sum_walk
-expr_halves set left None = fold-roll-Expr CallWalk (Walk ℕ) (Walk ℕ) (Walk Value) OperandWalk OperandWalk (Walk Value) (Walk Value) (call_step set) place_step pointer_step unary_step added_step compared_step expr_step sum_step (record { left = left; right = None })
-expr_halves set left (Some c) = fold-roll-Expr CallWalk (Walk ℕ) (Walk ℕ) (Walk Value) OperandWalk OperandWalk (Walk Value) (Walk Value) (call_step set) place_step pointer_step unary_step added_step compared_step expr_step sum_step (record { left = left; right = Some c })
+expr_is set left None = fold-roll-Expr CallWalk (Walk ℕ) (Walk ℕ) (Walk Value) OperandWalk OperandWalk (Walk Value) (Walk Value) (call_step set) place_step pointer_step unary_step added_step compared_step expr_step sum_step (record { left = left; right = None })
+expr_is set left (Some c) = fold-roll-Expr CallWalk (Walk ℕ) (Walk ℕ) (Walk Value) OperandWalk OperandWalk (Walk Value) (Walk Value) (call_step set) place_step pointer_step unary_step added_step compared_step expr_step sum_step (record { left = left; right = Some c })
 
-pub expr_is : (set : Setting) (e : Expr) → expr_walk set e ≡ (sum_walk set e.left ⟫ right_walk set e.right)
-unfolding call_walk place_walk pointer_walk unary_walk added_walk compared_walk expr_walk sum_walk
-expr_is set e = ap (expr_walk set) (sym (roll-out-Expr e)) ∙ expr_halves set e.left e.right
+pub expr_at : (set : Setting) (e : Expr) → expr_walk set e ≡ (sum_walk set (out-Expr e).left ⟫ right_walk set (out-Expr e).right)
+expr_at set e = ap (expr_walk set) (sym (roll-out-Expr e)) ∙ expr_is set (out-Expr e).left (out-Expr e).right
 
 pub stmt_declared : (set : Setting) (gives : Option ℕ) (d : Declaration) → stmt_walk set gives (stmt.Declared d) ≡ vars_walk set d.vars
 unfolding stmt_walk

@@ -8,3 +8,4 @@ pub mod Kept
 pub mod Keeps
 pub mod Trees
 pub mod Programs
+pub mod Calls

@@ -134,13 +134,14 @@ module _ (known : List Known) (set : Setting) (goes : (name : Name) → Always k
   items_keep (i ∷ is) base = keeps_then known base Nothing Nothing (item_walk set i) (λ _. items_walk set is) (item_keeps i base) (λ ms u g q. items_keep is ms)
 
 -- ---- a call goes to a function of the program
+callable_first : (ms : List Made) (name : List ℕ) (f : Known) (fs : List Known) (t : Target) → Callable ms f.target → (known_as name fs ≡ Some t → Callable ms t) → (b : Bool)
+    → option_map (λ (f : Known). f.target) (cond b (Some f) (find (λ (f : Known). bytes_eq f.name name) fs)) ≡ Some t → Callable ms t
+callable_first ms name f fs t here more true is = let at : f.target ≡ t = cc in subst (Callable ms) at here
+callable_first ms name f fs t here more false is = more is
+
 known_callable : (ms : List Made) (name : List ℕ) (known : List Known) (t : Target) → All (IsCallable ms) known → known_as name known ≡ Some t → Callable ms t
 known_callable ms name [] t all h = absurd (cc)
-known_callable ms name (f ∷ fs) t all h = first (bytes_eq f.name name) h
-  where
-    first : (b : Bool) → option_map (λ (f : Known). f.target) (cond b (Some f) (find (λ (f : Known). bytes_eq f.name name) fs)) ≡ Some t → Callable ms t
-    first true is = let at : f.target ≡ t = cc in subst (Callable ms) at (All-head (IsCallable ms) f fs all)
-    first false is = known_callable ms name fs t (All-tail (IsCallable ms) f fs all) is
+known_callable ms name (f ∷ fs) t all h = callable_first ms name f fs t (All-head (IsCallable ms) f fs all) (λ h. known_callable ms name fs t (All-tail (IsCallable ms) f fs all) h) (bytes_eq f.name name) h
 
 goes_made : (known : List Known) (name : Name) (s : State) (o : Option Target) → known_as name.bytes known ≡ o → Good known s → (a : Target) (t : State) → known_or o name s ≡ Ok (t, a) → Leaves known Callable s a t
 goes_made known name s (Some c) is good a t e =

@@ -6,7 +6,7 @@ use Rattle.visible_names.specs.Names.{Bound}
 use Rattle.graph_emit.specs.declared.fault.EmitFault.{EmitFault}
 use Rattle.graph_emit.specs.State.{State, Walk, closed, opened, scoped}
 use Rattle.graph_emit.specs.Answers.{Gives, Refuses, AnswersAs, Answers}
-use Rattle.graph_emit.proofs.Steps.{given, refused, answer_ok, answer_err}
+use Rattle.graph_emit.proofs.Steps.{given, refused, answer_ok, answer_err, state_is}
 
 first_part : (a b c d : List Bound) → a ++ b ≡ c ++ d → length b ≡ length d → a ≡ c
 first_part a b c d e n =
@@ -29,9 +29,7 @@ left_as : (before inside after : State) → Closes before inside after → insid
 left_as before inside after c o =
     let inner = first_part after.inner after.outer before.inner before.outer (c.names ∙ o) c.around in
     let outer = second_part after.inner after.outer before.inner before.outer (c.names ∙ o) c.around in
-    let v = c.vertices in
-    let e = c.edges in
-    cc
+    state_is (record { vertices = inside.vertices; edges = inside.edges; inner = before.inner; outer = before.outer }) after (sym c.vertices) (sym c.edges) (sym inner) (sym outer)
 
 pub scope_ends : {A : Type 0} {w : Walk A} (names : List Bound) (before inside after : State) (a : A) → Answers w (opened names before) (Ok a) inside → Closes before inside after → Answers (scoped names w) before (Ok a) after
 scope_ends {w = w} names before inside after a h c =

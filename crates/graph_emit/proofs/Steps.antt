@@ -51,23 +51,26 @@ pub goes_as : {A : Type 0} {whole rest more : Walk A} {before now : State} → G
 goes_as {now = now} g e = record { same = g.same ∙ ap (λ w. w now) e; around = g.around }
 
 -- one step on
-pub goes : {A B : Type 0} {whole : Walk B} {before now after : State} {w : Walk A} {next : A → Walk B} {a : A} → GoesOn whole before (w ⟫ next) now → Gives w now a after → GoesOn whole before (next a) after
+pub goes : {A B : Type 0} {whole : Walk B} {before now after : State} {w : Walk A} {a : A} (next : A → Walk B) → GoesOn whole before (w ⟫ next) now → Gives w now a after → GoesOn whole before (next a) after
 unfolding ◌⟫◌
-goes {next = next} g h = record { same = g.same ∙ ap (λ x. and_then x next) h.walked; around = h.around ∙ g.around }
+goes next g h = record { same = g.same ∙ ap (λ x. and_then x next) h.walked; around = h.around ∙ g.around }
 
-pub goes_by : {R A B : Type 0} {seen : R → A} {whole : Walk B} {before now after : State} {w : Walk A} {next : A → Walk B} {a : R} → GoesOn whole before (w ⟫ next) now → AnswersAs seen w now (Ok a) after → GoesOn whole before (next (seen a)) after
-goes_by g h = goes g (given h)
+pub goes_by : {R A B : Type 0} {seen : R → A} {whole : Walk B} {before now after : State} {w : Walk A} {a : R} (next : A → Walk B) → GoesOn whole before (w ⟫ next) now → AnswersAs seen w now (Ok a) after → GoesOn whole before (next (seen a)) after
+goes_by next g h = goes next g (given h)
 
 -- ---- and at the end
-pub stops : {A B : Type 0} {whole : Walk B} {before now : State} {w : Walk A} {next : A → Walk B} (e : EmitFault) → GoesOn whole before (w ⟫ next) now → Refuses w now e → Refuses whole before e
+pub stops : {A B : Type 0} {whole : Walk B} {before now : State} (w : Walk A) (next : A → Walk B) (e : EmitFault) → GoesOn whole before (w ⟫ next) now → Refuses w now e → Refuses whole before e
 unfolding ◌⟫◌
-stops e g (inl q) = inl q
-stops {next = next} e g (inr q) = inr (g.same ∙ ap (λ x. and_then x next) q)
+stops w next e g (inl q) = inl q
+stops w next e g (inr q) = inr (g.same ∙ ap (λ x. and_then x next) q)
 
 -- a step that is refused refuses the whole
-pub stops_by : {R S A B : Type 0} {see : S → B} {seen : R → A} {whole : Walk B} {before now after left : State} {w : Walk A} {next : A → Walk B} {e : EmitFault} (r : Result S EmitFault) → GoesOn whole before (w ⟫ next) now → AnswersAs seen w now (Err e) after → IsErrAnd r (λ x. x ≡ e) → AnswersAs see whole before r left
-stops_by (Ok a) g h is = absurd is
-stops_by {whole = whole} {before = before} {e = e} (Err f) g h is = answer_err (subst (λ f. Refuses whole before f) (sym is) (stops e g (refused h)))
+pub stops_on : {S A B : Type 0} {see : S → B} {whole : Walk B} {before now left : State} (w : Walk A) (next : A → Walk B) (e : EmitFault) (r : Result S EmitFault) → GoesOn whole before (w ⟫ next) now → Refuses w now e → IsErrAnd r (λ x. x ≡ e) → AnswersAs see whole before r left
+stops_on w next e (Ok a) g h is = absurd is
+stops_on {whole = whole} {before = before} w next e (Err f) g h is = answer_err (subst (λ f. Refuses whole before f) (sym is) (stops w next e g h))
+
+pub stops_by : {R S A B : Type 0} {see : S → B} {seen : R → A} {whole : Walk B} {before now after left : State} {w : Walk A} {e : EmitFault} (next : A → Walk B) (r : Result S EmitFault) → GoesOn whole before (w ⟫ next) now → AnswersAs seen w now (Err e) after → IsErrAnd r (λ x. x ≡ e) → AnswersAs see whole before r left
+stops_by {w = w} {e = e} next r g h is = stops_on w next e r g (refused h) is
 
 -- the last step
 refuses_on : {A : Type 0} {whole rest : Walk A} {before now : State} {e : EmitFault} → GoesOn whole before rest now → Refuses rest now e → Refuses whole before e
@@ -83,5 +86,17 @@ ends g h = record {
 pub ends_done : {A : Type 0} {whole : Walk A} {before now : State} {a : A} → GoesOn whole before (done a) now → Answers whole before (Ok a) now
 ends_done g = answer_ok (record { walked = g.same; around = g.around })
 
-pub ends_refused : {R A : Type 0} {seen : R → A} {whole : Walk A} {before now after : State} {tok : Tok} {why : InputKind} {e : EmitFault} → GoesOn whole before (refuse tok why) now → e ≡ fault.At tok.line why → AnswersAs seen whole before (Err e) after
-ends_refused g is = answer_err (inr (g.same ∙ ap Err (sym is)))
+-- the last step gives what the code answers
+pub ends_as : {R A : Type 0} {seen : R → A} {whole : Walk A} {before now : State} {a : A} (r : R) → GoesOn whole before (done a) now → seen r ≡ a → AnswersAs seen whole before (Ok r) now
+ends_as {now = now} r g is = answer_ok (record { walked = g.same ∙ ap (λ a. Ok (now, a)) (sym is); around = g.around })
+
+pub ends_refused : {R A : Type 0} {seen : R → A} {whole : Walk A} {before now after : State} {why : InputKind} {e : EmitFault} (tok : Tok) → GoesOn whole before (refuse tok why) now → e ≡ fault.At tok.line why → AnswersAs seen whole before (Err e) after
+ends_refused tok g is = answer_err (inr (g.same ∙ ap Err (sym is)))
+
+-- ---- states
+pub state_is : (a b : State) → a.vertices ≡ b.vertices → a.edges ≡ b.edges → a.inner ≡ b.inner → a.outer ≡ b.outer → a ≡ b
+state_is a b v e i o =
+    ap (λ x. let s : State = record { vertices = x; edges = a.edges; inner = a.inner; outer = a.outer } in s) v
+    ∙ ap (λ x. let s : State = record { vertices = b.vertices; edges = x; inner = a.inner; outer = a.outer } in s) e
+    ∙ ap (λ x. let s : State = record { vertices = b.vertices; edges = b.edges; inner = x; outer = a.outer } in s) i
+    ∙ ap (λ x. let s : State = record { vertices = b.vertices; edges = b.edges; inner = b.inner; outer = x } in s) o

@@ -160,7 +160,7 @@ module _ (known : List Known) (set : Setting) (goes : (name : Name) → Always k
 
   addeds_keep : (rest : List AddedWith) → AllOperands known (map (added_walk set) (map (λ e. e.0) rest))
   addeds_keep [] = tt
-  addeds_keep (a ∷ as) = (a.1, addeds_keep as)
+  addeds_keep (a ∷ more) = (a.1, addeds_keep more)
 
   call_step : (y : Call-F CallWith PlaceWith PointerWith UnaryWith AddedWith ComparedWith ExprWith SumWith) → CallFact (roll-Call (map-Call CallWith PlaceWith PointerWith UnaryWith AddedWith ComparedWith ExprWith SumWith Call Place Pointer Unary Added Compared Expr Sum (λ e. e.0) (λ e. e.0) (λ e. e.0) (λ e. e.0) (λ e. e.0) (λ e. e.0) (λ e. e.0) (λ e. e.0) y))
   call_step (o.Function name args) base =
@@ -223,14 +223,14 @@ module _ (known : List Known) (set : Setting) (goes : (name : Name) → Always k
   added_step y base = subst (λ a. Keeps known base HasVertex a.walk) (sym (added_is set (roll-Added (map-Added CallWith PlaceWith PointerWith UnaryWith AddedWith ComparedWith ExprWith SumWith Call Place Pointer Unary Added Compared Expr Sum (λ e. e.0) (λ e. e.0) (λ e. e.0) (λ e. e.0) (λ e. e.0) (λ e. e.0) (λ e. e.0) (λ e. e.0) y)))) (y.unary.1 base)
 
   compared_step : (y : Compared-F CallWith PlaceWith PointerWith UnaryWith AddedWith ComparedWith ExprWith SumWith) → ComparedFact (roll-Compared (map-Compared CallWith PlaceWith PointerWith UnaryWith AddedWith ComparedWith ExprWith SumWith Call Place Pointer Unary Added Compared Expr Sum (λ e. e.0) (λ e. e.0) (λ e. e.0) (λ e. e.0) (λ e. e.0) (λ e. e.0) (λ e. e.0) (λ e. e.0) y))
-  compared_step y base = subst (λ a. Keeps known base HasVertex a.walk) (sym (compared_is set (roll-Compared (map-Compared CallWith PlaceWith PointerWith UnaryWith AddedWith ComparedWith ExprWith SumWith Call Place Pointer Unary Added Compared Expr Sum (λ e. e.0) (λ e. e.0) (λ e. e.0) (λ e. e.0) (λ e. e.0) (λ e. e.0) (λ e. e.0) (λ e. e.0) y)))) (y.sum.1 base)
+  compared_step y base = subst (λ a. Keeps known base HasVertex a.walk) (sym (compared_is set (map-Compared CallWith PlaceWith PointerWith UnaryWith AddedWith ComparedWith ExprWith SumWith Call Place Pointer Unary Added Compared Expr Sum (λ e. e.0) (λ e. e.0) (λ e. e.0) (λ e. e.0) (λ e. e.0) (λ e. e.0) (λ e. e.0) (λ e. e.0) y))) (y.sum.1 base)
 
   right_keeps : (left : SumWith) (right : Option ComparedWith) → ExprFact (roll-Expr (map-Expr CallWith PlaceWith PointerWith UnaryWith AddedWith ComparedWith ExprWith SumWith Call Place Pointer Unary Added Compared Expr Sum (λ e. e.0) (λ e. e.0) (λ e. e.0) (λ e. e.0) (λ e. e.0) (λ e. e.0) (λ e. e.0) (λ e. e.0) (record { left = left; right = right })))
   right_keeps left None base =
-      subst (Keeps known base HasVertex) (sym (expr_is set (roll-Expr (map-Expr CallWith PlaceWith PointerWith UnaryWith AddedWith ComparedWith ExprWith SumWith Call Place Pointer Unary Added Compared Expr Sum (λ e. e.0) (λ e. e.0) (λ e. e.0) (λ e. e.0) (λ e. e.0) (λ e. e.0) (λ e. e.0) (λ e. e.0) (record { left = left; right = None })))))
+      subst (Keeps known base HasVertex) (sym (expr_is set left.0 None))
       (keeps_then known base HasVertex HasVertex (sum_walk set left.0) (right_walk set None) (left.1 base) (λ ms v g q. keeps_done known ms HasVertex v (λ ns h. omega (arith, h.longer))))
   right_keeps left (Some c) base =
-      subst (Keeps known base HasVertex) (sym (expr_is set (roll-Expr (map-Expr CallWith PlaceWith PointerWith UnaryWith AddedWith ComparedWith ExprWith SumWith Call Place Pointer Unary Added Compared Expr Sum (λ e. e.0) (λ e. e.0) (λ e. e.0) (λ e. e.0) (λ e. e.0) (λ e. e.0) (λ e. e.0) (λ e. e.0) (record { left = left; right = Some c })))))
+      subst (Keeps known base HasVertex) (sym (expr_is set left.0 (Some c.0)))
       (keeps_then known base HasVertex HasVertex (sum_walk set left.0) (right_walk set (Some c.0)) (left.1 base) (λ ms v g q. operate_keeps known (compared_walk set c.0) c.1 ms))
 
   expr_step : (y : Expr-F CallWith PlaceWith PointerWith UnaryWith AddedWith ComparedWith ExprWith SumWith) → ExprFact (roll-Expr (map-Expr CallWith PlaceWith PointerWith UnaryWith AddedWith ComparedWith ExprWith SumWith Call Place Pointer Unary Added Compared Expr Sum (λ e. e.0) (λ e. e.0) (λ e. e.0) (λ e. e.0) (λ e. e.0) (λ e. e.0) (λ e. e.0) (λ e. e.0) y))
@@ -238,7 +238,7 @@ module _ (known : List Known) (set : Setting) (goes : (name : Name) → Always k
 
   sum_step : (y : Sum-F CallWith PlaceWith PointerWith UnaryWith AddedWith ComparedWith ExprWith SumWith) → SumFact (roll-Sum (map-Sum CallWith PlaceWith PointerWith UnaryWith AddedWith ComparedWith ExprWith SumWith Call Place Pointer Unary Added Compared Expr Sum (λ e. e.0) (λ e. e.0) (λ e. e.0) (λ e. e.0) (λ e. e.0) (λ e. e.0) (λ e. e.0) (λ e. e.0) y))
   sum_step y base =
-      subst (Keeps known base HasVertex) (sym (sum_is set (roll-Sum (map-Sum CallWith PlaceWith PointerWith UnaryWith AddedWith ComparedWith ExprWith SumWith Call Place Pointer Unary Added Compared Expr Sum (λ e. e.0) (λ e. e.0) (λ e. e.0) (λ e. e.0) (λ e. e.0) (λ e. e.0) (λ e. e.0) (λ e. e.0) y))))
+      subst (Keeps known base HasVertex) (sym (sum_is set (map-Sum CallWith PlaceWith PointerWith UnaryWith AddedWith ComparedWith ExprWith SumWith Call Place Pointer Unary Added Compared Expr Sum (λ e. e.0) (λ e. e.0) (λ e. e.0) (λ e. e.0) (λ e. e.0) (λ e. e.0) (λ e. e.0) (λ e. e.0) y)))
       (keeps_then known base HasVertex HasVertex (unary_walk set y.first.0) (λ value. operate_all value (map (added_walk set) (map (λ (e : AddedWith). e.0) y.rest))) (y.first.1 base)
       (λ ms v g q. operands_keep known (map (added_walk set) (map (λ (e : AddedWith). e.0) y.rest)) v ms (addeds_keep y.rest) q))
 

@@ -1,5 +1,4 @@
 //! The walk of expressions.
-#![tactic(none)]
 ghost use Rattle.std.specs.Prelude.{◌≡◌, length, map};
 ghost use Rattle.graph_emit.specs.State.{Setting as ASetting};
 ghost use Rattle.graph_emit.specs.Answers.{Answers};
