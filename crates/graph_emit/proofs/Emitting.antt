@@ -23,7 +23,7 @@ use Rattle.graph_emit.specs.declared.fault.EmitFault.{EmitFault}
 use Rattle.graph_emit.specs.declared.fault.EmitFault.TheVariants as fault
 use Rattle.graph_emit.specs.State.{Made, State, Walk, done, and_then, ◌⟫◌, fresh, with_vertex, join, is_deref_of, is_address_of, place_of, deref_or_new, deref_of, address_or_new, address_of, bind, declare}
 use Rattle.graph_emit.specs.Answers.{Gives, Refuses, AnswersAs, Answers, made, at_number, IsIndexed}
-use Rattle.graph_emit.proofs.Steps.{given, refused, answer_ok, answer_err, GoesOn, goes, goes_by, stops_by, ends_done}
+use Rattle.graph_emit.proofs.Steps.{given, refused, answer_ok, answer_err, GoesOn, goes, goes_by, stops_by, ends_done, pair_of}
 use Rattle.graph_emit.proofs.Index.{indexed_plain, indexed_deref, indexed_address}
 
 -- ---- room
@@ -95,5 +95,5 @@ pub declare_ends : (name : Name) (bytes : List ℕ) (inner : List Bound) (s t u 
     → Answers (fresh name.tok form.Variable bytes) s (Ok v) t → bind bytes v t ≡ Ok (u, v) → Answers (declare name) s (Ok v) u
 declare_ends name bytes inner s t u found v b i is missing h bound =
     let g = goes_by _ (declares name bytes inner s found b i is missing) h in
-    let left : with_name bytes v t ≡ u = cc in
+    let left : with_name bytes v t ≡ u = ap (λ x. x.0) (pair_of (with_name bytes v t, v) (u, v) bound) in
     answer_ok (record { walked = g.same ∙ bound; around = ap (λ (s : State). s.outer) (sym left) ∙ g.around })

@@ -23,6 +23,7 @@ use Rattle.graph_emit.specs.declared.fault.EmitKind.{EmitKind}
 use Rattle.graph_emit.specs.declared.fault.EmitKind.TheVariants as kind
 use Rattle.graph_emit.specs.State.{Made, State, Walk, done, refuse, and_then, ◌⟫◌, fresh, join, form_at, is_deref_of, is_address_of, place_of, deref_or_new, deref_of, address_or_new, address_of, pointed_by, pointed_to, addressed_by, addressed, null_flows, flow, found_or, variable, bind, declare, closed, scoped, Target}
 use Rattle.graph_emit.specs.Program.{Known}
+use Rattle.graph_emit.proofs.Steps.{pair_of}
 use Rattle.graph_emit.proofs.Forms.{Has, has_within, has_new, found_has, Grows, grows_none, grows_then, grows_new}
 use Rattle.graph_emit.proofs.Kept.{Kept, both, kept_joined, kept_plain, deref, address, kept_deref, kept_address}
 
@@ -78,9 +79,6 @@ pub record Leaves {A : Type 0} (known : List Known) (Q : List Made → A → Typ
 -- a step keeps the rules, where it begins behind these vertices, and gives a value of this kind
 pub record Keeps {A : Type 0} (known : List Known) (base : List Made) (Q : List Made → A → Type 0) (w : Walk A) : Type 0 where
   pub leaves : (s : State) → Good known s → Grows base s.vertices → (a : A) (t : State) → w s ≡ Ok (t, a) → Leaves known Q s a t
-
-pair_of : {A : Type 0} (x y : State × A) → (let r : Result (State × A) EmitFault = Ok x in r) ≡ Ok y → x ≡ y
-pair_of x y e = cc
 
 pub leaves_as : {A : Type 0} (known : List Known) (Q : List Made → A → Type 0) (s t u : State) (a b : A) → done a t ≡ Ok (u, b) → Leaves known Q s a t → Leaves known Q s b u
 leaves_as known Q s t u a b e l =

@@ -8,4 +8,5 @@ pub mod Kept
 pub mod Keeps
 pub mod Trees
 pub mod Programs
+pub mod Loops
 pub mod Calls

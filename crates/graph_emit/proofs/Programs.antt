@@ -30,7 +30,7 @@ use Rattle.graph_emit.specs.declared.fault.EmitKind.{EmitKind}
 use Rattle.graph_emit.specs.declared.fault.EmitFault.{EmitFault}
 use Rattle.graph_emit.specs.State.{Made, State, Walk, done, and_then, ◌⟫◌, refuse, fresh, flow, declare, scoped, Target, Setting}
 use Rattle.graph_emit.specs.Walk.{expr_walk, place_walk, call_walk, initial, var_walk, vars_walk, in_order, returned, stmt_walk, body_walk}
-use Rattle.graph_emit.specs.Program.{Known, known_as, param_made, params_made, gives_nothing, return_made, target_made, function_made, functions_made, known_or, setting, item_walk, items_walk, program_walk, blank, graph_of, shown, listed}
+use Rattle.graph_emit.specs.Program.{Known, known_as, param_made, params_made, gives_nothing, return_made, target_made, function_made, item_made, functions_made, known_or, setting, item_walk, items_walk, program_walk, blank, graph_of, shown, listed}
 use Rattle.graph_emit.proofs.Forms.{Has, has_within, Grows, grows_none, grows_then}
 use Rattle.graph_emit.proofs.Kept.{Kept, kept_none}
 use Rattle.graph_emit.proofs.Keeps.{IsVariable, Callable, IsCallable, Good, variables_grown, callable_grown, callables_grown, Leaves, Keeps, leaves_as, keeps_done, keeps_refused, halves, keeps_then, Nothing, IsOf, IsPlace, place_inside, fresh_keeps, flow_keeps, declare_keeps, scoped_keeps}
@@ -200,10 +200,13 @@ function_keeps before f base all =
           keeps_done [] ms AllCallable (k ∷ before) (λ ns h. All-cons (IsCallable ns) k before (callable_grown ms ns target h q) (callables_grown base ns before (grows_then base ms ns g h) all)))
     ]
 
+item_made_keeps : (before : List Known) (i : Item) (base : List Made) → AllCallable base before → Keeps [] base AllCallable (item_made before i)
+item_made_keeps before (item.Declared d) base all = keeps_done [] base AllCallable before (λ ms g. callables_grown base ms before g all)
+item_made_keeps before (item.Function f) base all = function_keeps before f base all
+
 functions_keep : (before : List Known) (items : List Item) (base : List Made) → AllCallable base before → Keeps [] base AllCallable (functions_made before items)
 functions_keep before [] base all = keeps_done [] base AllCallable before (λ ms g. callables_grown base ms before g all)
-functions_keep before (item.Declared d ∷ items) base all = functions_keep before items base all
-functions_keep before (item.Function f ∷ items) base all = keeps_then [] base AllCallable AllCallable (function_made before f) (λ known. functions_made known items) (function_keeps before f base all) (λ ms known g q. functions_keep known items ms q)
+functions_keep before (i ∷ items) base all = keeps_then [] base AllCallable AllCallable (item_made before i) (λ known. functions_made known items) (item_made_keeps before i base all) (λ ms known g q. functions_keep known items ms q)
 
 -- ---- a program
 program_kept : (k : EmitKind) (items : List Item) (t : State) → program_walk k items blank ≡ Ok (t, tt) → Kept t.vertices t.edges

@@ -1,5 +1,5 @@
 -- Steps in a scope of their own.
-use Rattle.std.proofs.Common.{◌≡◌, inl, inr, refl, sym, ap, subst, ◌∙◌, ℕ, List, ◌++◌, take, drop, length, length-append, arith, Result, Ok, Err}
+use Rattle.std.proofs.Common.{◌≡◌, inl, inr, refl, sym, ap, subst, ◌∙◌, ℕ, List, ◌+◌, ◌≤◌, ◌++◌, take, drop, length, length-append, arith, Result, Ok, Err}
 use Rattle.std.specs.Prelude.{IsErrAnd}
 use Rattle.std.proofs.Math.Seq.{take-append_seam, drop-append_seam}
 use Rattle.visible_names.specs.Names.{Bound}
@@ -31,19 +31,29 @@ left_as before inside after c o =
     let outer = second_part after.inner after.outer before.inner before.outer (c.names ∙ o) c.around in
     state_is (record { vertices = inside.vertices; edges = inside.edges; inner = before.inner; outer = before.outer }) after (sym c.vertices) (sym c.edges) (sym inner) (sym outer)
 
-pub scope_ends : {A : Type 0} {w : Walk A} (names : List Bound) (before inside after : State) (a : A) → Answers w (opened names before) (Ok a) inside → Closes before inside after → Answers (scoped names w) before (Ok a) after
-scope_ends {w = w} names before inside after a h c =
+pub scope_ends : {A : Type 0} {w : Walk A} (names : List Bound) (before start inside after : State) (a : A) → start ≡ opened names before → Answers w start (Ok a) inside → Closes before inside after → Answers (scoped names w) before (Ok a) after
+scope_ends {w = w} names before start inside after a is h c =
     let g = given h in
-    let left = left_as before inside after c g.around in
+    let o : inside.outer ≡ before.inner ++ before.outer = g.around ∙ ap (λ (s : State). s.outer) is in
+    let left = left_as before inside after c o in
     answer_ok (record {
-      walked = ap (closed before) g.walked ∙ ap (λ s. Ok (s, a)) left;
-      around = second_part after.inner after.outer before.inner before.outer (c.names ∙ g.around) c.around;
+      walked = ap (λ s. closed before (w s)) (sym is) ∙ ap (closed before) g.walked ∙ ap (λ s. Ok (s, a)) left;
+      around = second_part after.inner after.outer before.inner before.outer (c.names ∙ o) c.around;
     })
 
 closed_refuses : {A : Type 0} (w : Walk A) (names : List Bound) (before : State) (e : EmitFault) → Refuses w (opened names before) e → Refuses (scoped names w) before e
 closed_refuses w names before e (inl q) = inl q
 closed_refuses w names before e (inr q) = inr (ap (closed before) q)
 
-pub scope_stops : {A : Type 0} {w : Walk A} {e : EmitFault} (names : List Bound) (before inside after : State) (r : Result A EmitFault) → Answers w (opened names before) (Err e) inside → IsErrAnd r (λ x. x ≡ e) → Answers (scoped names w) before r after
-scope_stops names before inside after (Ok a) h is = absurd is
-scope_stops {w = w} {e = e} names before inside after (Err f) h is = answer_err (let P : EmitFault → Type 0 = λ f. Refuses (scoped names w) before f in subst P (sym is) (closed_refuses w names before e (refused h)))
+pub scope_stops : {A : Type 0} {w : Walk A} (names : List Bound) (before start inside after : State) (e : EmitFault) (r : Result A EmitFault) → start ≡ opened names before → Answers w start (Err e) inside → IsErrAnd r (λ x. x ≡ e) → Answers (scoped names w) before r after
+scope_stops names before start inside after e (Ok a) begins h is = absurd is
+scope_stops {w = w} names before start inside after e (Err f) begins h is =
+    let P : EmitFault → Type 0 = λ f. Refuses (scoped names w) before f in
+    let Q : State → Type 0 = λ s. Refuses w s e in
+    answer_err (subst P (sym is) (closed_refuses w names before e (subst Q begins (refused h))))
+
+-- inside a scope there are the names around it
+pub scope_room : {A : Type 0} {w : Walk A} (names : List Bound) (before start inside : State) (a : A) (n : ℕ) → start ≡ opened names before → Answers w start (Ok a) inside → n ≡ length before.outer → n ≤ length inside.outer
+scope_room names before start inside a n is h e =
+    let o : inside.outer ≡ before.inner ++ before.outer = (given h).around ∙ ap (λ (s : State). s.outer) is in
+    omega (arith, ap length o, length-append before.inner before.outer)

@@ -100,3 +100,6 @@ state_is a b v e i o =
     ∙ ap (λ x. let s : State = record { vertices = b.vertices; edges = x; inner = a.inner; outer = a.outer } in s) e
     ∙ ap (λ x. let s : State = record { vertices = b.vertices; edges = b.edges; inner = x; outer = a.outer } in s) i
     ∙ ap (λ x. let s : State = record { vertices = b.vertices; edges = b.edges; inner = b.inner; outer = x } in s) o
+
+pub pair_of : {A : Type 0} (x y : State × A) → (let r : Result (State × A) EmitFault = Ok x in r) ≡ Ok y → x ≡ y
+pair_of x y e = cc

@@ -62,10 +62,13 @@ function_made before f =
     if is_some (known_as f.name.bytes before) then refuse f.name.tok input.Repeated
     else (target_made f ⟫ λ target. done (record { name = f.name.bytes; target = target } ∷ before))
 
+abbrev pub item_made : List Known → Item → Walk (List Known)
+item_made before (item.Declared d) = done before
+item_made before (item.Function f) = function_made before f
+
 abbrev pub functions_made : List Known → List Item → Walk (List Known)
 functions_made before [] = done before
-functions_made before (item.Declared d ∷ items) = functions_made before items
-functions_made before (item.Function f ∷ items) = function_made before f ⟫ λ known. functions_made known items
+functions_made before (i ∷ is) = item_made before i ⟫ λ known. functions_made known is
 
 -- ---- then the items in text order
 abbrev pub known_or : Option Target → Name → Walk Target

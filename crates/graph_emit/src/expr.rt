@@ -1,5 +1,6 @@
 //! The walk of expressions.
-ghost use Rattle.std.specs.Prelude.{◌≡◌, length, map};
+ghost use Rattle.std.specs.Prelude.{◌≡◌, ◌<◌, length, map, slice_get};
+ghost use Rattle.std.specs.Option.{option_map};
 ghost use Rattle.graph_emit.specs.State.{Setting as ASetting};
 ghost use Rattle.graph_emit.specs.Answers.{Answers};
 ghost use Rattle.graph_emit.specs.Functions.{bound};
@@ -9,7 +10,7 @@ ghost use Rattle.graph_emit.specs.Walk.{given as given_step, arg_flows as arg_st
 use crate::emitter::{Emitter, Value, plain, refusal};
 use crate::fault::{EmitFault, EmitKind};
 use crate::functions::{Functions, Param};
-use c_tree::{Added, Call, Compared, Expr, Name, Place, Pointer, Sum, Tok, Unary};
+use c_tree::{Added, Call, Compared, Expr, Name, Nodes, Place, Pointer, Sum, Tok, Unary};
 use emit_list::{EmitLabel, VertexForm};
 use io_edge::InputKind;
 
@@ -41,20 +42,29 @@ fn arg_flows<'p>(set: &Setting<'_, 'p>, emitter: &mut Emitter<'p>, arg: &'p Expr
     emitter.flow(set.kind, value, t)
 }
 
+/// The vertex of the parameter at a place.
+fn vertex_of(params: &[Param<'_>], i: usize) -> u32
+    requires { i < length params.now }
+    ensures { option_map (λ p. p.vertex) (slice_get params.now i) ≡ Some result }
+{
+    params[i].vertex
+}
+
 /// Each argument in order flows to its parameter.
 #[cycle(expr)]
 fn args_flow<'p>(
     set: &Setting<'_, 'p>,
     emitter: &mut Emitter<'p>,
-    args: &'p [Expr],
+    args: &'p Nodes<Expr>,
     params: &[Param<'p>],
 ) -> Result<(), EmitFault>
     requires { length args.now ≡ length params.now }
     ensures { Answers (args_step set.now.kind (map (expr_walk (seen set.now)) args.now) (map bound params.now))
         emitter.old result emitter.new }
 {
-    for (i, arg) in args.iter().enumerate() {
-        arg_flows(set, emitter, arg, params[i].vertex)?;
+    let items = args.as_slice();
+    for (i, arg) in items.iter().enumerate() {
+        arg_flows(set, emitter, arg, vertex_of(params, i))?;
     }
     Ok(())
 }
@@ -74,7 +84,7 @@ pub(crate) fn walk_call<'p>(
             if args.len() != target.params.len() {
                 return Err(refusal(name.tok, InputKind::WrongArguments));
             }
-            args_flow(set, emitter, args.as_slice(), target.params.as_slice())?;
+            args_flow(set, emitter, args, target.params.as_slice())?;
             given(emitter, name, target.gives)
         }
         Call::Malloc { tok, size } => {

@@ -3,7 +3,7 @@ ghost use Rattle.std.specs.Prelude.{◌≡◌, ◌∷◌, ◌++◌, [], None, So
 ghost use Rattle.io_edge.specs.declared.kinds.InputKind.TheVariants.{Undeclared};
 ghost use Rattle.graph_emit.specs.Answers.{Answers, AnswersAs};
 ghost use Rattle.graph_emit.specs.Functions.{bound as bound_of, target as target_of, known};
-ghost use Rattle.graph_emit.specs.Program.{known_as, params_made as params_step, target_made as target_step, functions_made as functions_step, gives_nothing as is_nothing};
+ghost use Rattle.graph_emit.specs.Program.{known_as, param_made as param_step, params_made as params_step, target_made as target_step, item_made as item_step, functions_made as functions_step, gives_nothing as is_nothing};
 
 use crate::emitter::{Emitter, refusal};
 use crate::fault::EmitFault;
@@ -92,6 +92,28 @@ impl<'p> Functions<'p> {
     }
 }
 
+/// A parameter with a new vertex, behind those with these names.
+fn param_made<'p>(
+    emitter: &mut Emitter<'p>,
+    names: &mut VisibleNames<'p>,
+    param: &'p c_tree::Param,
+) -> Result<Param<'p>, EmitFault>
+    ensures made { AnswersAs (λ p. bound_of p ∷ names.old.inner) (param_step names.old.inner param.now)
+        emitter.old result emitter.new }
+    ensures names { IfOk result (λ p. names.new ≡ record {
+        inner = bound_of p ∷ names.old.inner;
+        outer = names.old.outer
+    }) }
+{
+    let name = param.name.bytes.as_slice();
+    if names.is_inner(name) {
+        return Err(refusal(param.name.tok, InputKind::Repeated));
+    }
+    let vertex = emitter.fresh(param.name.tok, VertexForm::Variable, name)?;
+    names.bind(name, vertex)?;
+    Ok(Param { name, vertex })
+}
+
 /// The parameters of a function, each with a new vertex.
 fn params_made<'p>(
     alloc: Global,
@@ -104,13 +126,7 @@ fn params_made<'p>(
     let mut made = Vec::new(alloc);
     let mut names = VisibleNames::new(alloc);
     for param in params {
-        let name = param.name.bytes.as_slice();
-        if names.is_inner(name) {
-            return Err(refusal(param.name.tok, InputKind::Repeated));
-        }
-        let vertex = emitter.fresh(param.name.tok, VertexForm::Variable, name)?;
-        names.bind(name, vertex)?;
-        push_param(&mut made, Param { name, vertex })?;
+        push_param(&mut made, param_made(emitter, &mut names, param)?)?;
     }
     Ok(made)
 }
@@ -151,6 +167,26 @@ fn target_made<'p>(alloc: Global, emitter: &mut Emitter<'p>, f: &'p Function) ->
     })
 }
 
+/// The function of an item, if it is one, behind those before it.
+fn item_made<'p>(
+    alloc: Global,
+    emitter: &mut Emitter<'p>,
+    functions: &mut Functions<'p>,
+    item: &'p Item,
+) -> Result<(), EmitFault>
+    ensures { AnswersAs (λ _. functions.new) (item_step functions.old item.now) emitter.old result emitter.new }
+{
+    let Item::Function(f) = item else {
+        return Ok(());
+    };
+    if functions.has(f.name.bytes.as_slice()) {
+        return Err(refusal(f.name.tok, InputKind::Repeated));
+    }
+    let target = target_made(alloc, emitter, f)?;
+    functions.add(target)?;
+    Ok(())
+}
+
 /// The functions of a program.
 pub(crate) fn functions_made<'p>(
     alloc: Global,
@@ -161,14 +197,7 @@ pub(crate) fn functions_made<'p>(
 {
     let mut functions = Functions::new(alloc);
     for item in items {
-        if let Item::Function(f) = item {
-            let name = f.name.bytes.as_slice();
-            if functions.has(name) {
-                return Err(refusal(f.name.tok, InputKind::Repeated));
-            }
-            let target = target_made(alloc, emitter, f)?;
-            functions.add(target)?;
-        }
+        item_made(alloc, emitter, &mut functions, item)?;
     }
     Ok(functions)
 }

@@ -22,7 +22,7 @@ fn walk_item<'p>(set: &Setting<'_, 'p>, emitter: &mut Emitter<'p>, item: &'p Ite
         Item::Declared(d) => walk_vars(set, emitter, d.vars.as_slice()),
         Item::Function(f) => {
             let target = set.functions.goes(&f.name)?;
-            walk_body(set, emitter, f.block.as_slice(), target)
+            walk_body(set, emitter, &f.block, target)
         }
     }
 }

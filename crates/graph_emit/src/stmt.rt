@@ -1,5 +1,4 @@
 //! The walk of declarations, statements and functions.
-#![tactic(none)]
 ghost use Rattle.std.specs.Prelude.{◌≡◌, ◌++◌, [], OnOk, map, reverse};
 ghost use Rattle.graph_emit.specs.State.{scoped};
 ghost use Rattle.graph_emit.specs.Answers.{Answers};
@@ -11,7 +10,7 @@ use crate::emitter::{Emitter, refusal};
 use crate::expr::{Setting, walk_call, walk_expr, walk_place};
 use crate::fault::EmitFault;
 use crate::functions::{Param, Target};
-use c_tree::{Expr, Stmt, Tok, Var};
+use c_tree::{Expr, Nodes, Stmt, Tok, Var};
 use io_edge::InputKind;
 use std::alloc::AllocError;
 
@@ -67,11 +66,11 @@ fn walk_stmts<'p>(
     set: &Setting<'_, 'p>,
     emitter: &mut Emitter<'p>,
     gives: Option<u32>,
-    stmts: &'p [Stmt],
+    stmts: &'p Nodes<Stmt>,
 ) -> Result<(), EmitFault>
     ensures { Answers (in_order (map (stmt_walk (seen set.now) gives) stmts.now)) emitter.old result emitter.new }
 {
-    for stmt in stmts {
+    for stmt in stmts.as_slice() {
         walk_stmt(set, emitter, gives, stmt)?;
     }
     Ok(())
@@ -83,7 +82,7 @@ fn walk_block<'p>(
     set: &Setting<'_, 'p>,
     emitter: &mut Emitter<'p>,
     gives: Option<u32>,
-    stmts: &'p [Stmt],
+    stmts: &'p Nodes<Stmt>,
 ) -> Result<(), EmitFault>
     ensures { Answers (scoped [] (in_order (map (stmt_walk (seen set.now) gives) stmts.now)))
         emitter.old result emitter.new }
@@ -114,7 +113,7 @@ fn walk_stmt<'p>(
             walk_call(set, emitter, call)?;
             Ok(())
         }
-        Stmt::Block(stmts) => walk_block(set, emitter, gives, stmts.as_slice()),
+        Stmt::Block(stmts) => walk_block(set, emitter, gives, stmts),
         Stmt::Empty => Ok(()),
         Stmt::If {
             condition,
@@ -155,7 +154,7 @@ fn bind_params<'p>(emitter: &mut Emitter<'p>, params: &[Param<'p>]) -> Result<()
 pub(crate) fn walk_body<'p>(
     set: &Setting<'_, 'p>,
     emitter: &mut Emitter<'p>,
-    body: &'p [Stmt],
+    body: &'p Nodes<Stmt>,
     target: &Target<'p>,
 ) -> Result<(), EmitFault>
     ensures { Answers (body_walk (seen set.now) body.now (target_of target.now)) emitter.old result emitter.new }

@@ -10,7 +10,7 @@ use Rattle.graph_emit.proofs.expr.+expr.Given as goal
 abbrev pub invariant-args_flow-loop-i : goal.invariant-args_flow-loop-i
 invariant-args_flow-loop-i l = record {
   goes_on : GoesOn (args_step l.fn.set.kind (map (expr_walk (seen l.fn.set)) l.fn.args) (map bound l.fn.params)) l.fn.emitter
-      (args_step l.fn.set.kind (map (expr_walk (seen l.fn.set)) (drop l.i l.fn.args)) (map bound (drop l.i l.fn.params))) l.emitter;
+      (args_step l.fn.set.kind (map (expr_walk (seen l.fn.set)) (drop l.i l.items)) (map bound (drop l.i l.fn.params))) l.emitter;
 }
 
 -- the operands from here on are walked as what is left of the sum
