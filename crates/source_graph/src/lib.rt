@@ -1,0 +1,7 @@
+//! The graph of a C text: its tokens, its program and the walk in turn, or its first refusal.
+#![tactic(auto)]
+
+mod graph;
+mod lines;
+
+pub use graph::{LONGEST_SOURCE, SourceFault, source_graph};
