@@ -51,3 +51,7 @@ pub data HasSourceFault (kind : EmitKind) (text : List ℕ) : ℕ → InputKind 
   no_graph : (tokens : List Token) (program : Program) (line : ℕ) (k : InputKind) → HasTokens text tokens
       → IsOnlyProgram (source text tokens) program → graph_of kind program ≡ Err (emit.At line k)
       → HasSourceFault kind text line k
+
+-- a text has one graph
+abbrev pub HaveOneGraph : Type 0
+HaveOneGraph = (kind : EmitKind) (text : List ℕ) (a b : Listed) → IsSourceGraph kind text a → IsSourceGraph kind text b → a ≡ b

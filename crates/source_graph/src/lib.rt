@@ -2,6 +2,8 @@
 #![tactic(auto)]
 
 mod graph;
+mod laws;
 mod lines;
 
 pub use graph::{LONGEST_SOURCE, SourceFault, source_graph};
+pub use laws::texts_have_one_graph;

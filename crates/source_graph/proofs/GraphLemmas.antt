@@ -1,0 +1,37 @@
+-- A text has one graph.
+use Rattle.std.proofs.Common.{◌≡◌, ℕ, List, Ok, ap, sym, subst, ◌∙◌}
+use Rattle.std.specs.Prelude.{Result}
+use Rattle.c_lexer.specs.declared.token.Token.{Token}
+use Rattle.c_lexer.specs.declared.fault.LexFault.{LexFault}
+use Rattle.c_tree.specs.declared.tree.Item.{Item}
+use Rattle.c_tree.specs.declared.tree.Program.{Program}
+use Rattle.c_tree.specs.Tokens.{source}
+use Rattle.c_parser.specs.Program.{IsOnlyProgram, IsProgram}
+use Rattle.emit_list.specs.Vertices.{Listed}
+use Rattle.graph_emit.specs.declared.fault.EmitFault.{EmitFault}
+use Rattle.graph_emit.specs.declared.fault.EmitKind.{EmitKind}
+use Rattle.graph_emit.specs.Program.{IsGraph, graph_of, listed}
+use Rattle.graph_emit.specs.State.{State}
+use Rattle.source_graph.specs.Sources.{IsSourceGraph}
+
+same_tokens : (r : Result (List Token) LexFault) (a b : List Token) → r ≡ Ok a → r ≡ Ok b → a ≡ b
+same_tokens r a b p q = cc
+
+same_state : (r : Result (State × Unit {0}) EmitFault) (a b : State) → r ≡ Ok (a, tt) → r ≡ Ok (b, tt) → a ≡ b
+same_state r a b p q = cc
+
+same_program : (text : List ℕ) (tokens : List Token) (a b : Program) → IsOnlyProgram (source text tokens) a → IsOnlyProgram (source text tokens) b → b ≡ a
+same_program text tokens a b p q =
+    let items : b.items ≡ a.items = p.only b.items (record { written = q.written; items_are = q.items_are; is = q.is }) in
+    ap (λ (l : List Item). record { items = l }) items
+
+same_graph : (kind : EmitKind) (program : Program) (a b : Listed) → IsGraph kind program a → IsGraph kind program b → a ≡ b
+same_graph kind program a b p q =
+    p.same ∙ ap listed (same_state (graph_of kind program) p.state q.state p.walked q.walked) ∙ sym q.same
+
+pub one_graph : (kind : EmitKind) (text : List ℕ) (a b : Listed) → IsSourceGraph kind text a → IsSourceGraph kind text b → a ≡ b
+one_graph kind text a b p q =
+    let tokens = same_tokens _ p.tokens q.tokens p.has.tokens_are q.has.tokens_are in
+    let only = subst (λ (t : List Token). IsOnlyProgram (source text t) q.program) (sym tokens) q.program_is in
+    let program = same_program text p.tokens p.program q.program p.program_is only in
+    same_graph kind p.program a b p.graph (subst (λ (x : Program). IsGraph kind x b) program q.graph)
