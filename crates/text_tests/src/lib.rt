@@ -16,4 +16,6 @@ mod manifests;
 #[cfg(test)]
 mod partitions;
 #[cfg(test)]
+mod programs;
+#[cfg(test)]
 mod tables;
