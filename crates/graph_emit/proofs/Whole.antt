@@ -1,7 +1,8 @@
 -- The graph of a whole program, and its list.
-use Rattle.std.proofs.Common.{◌≡◌, ◌⊎◌, ◌∙◌, inl, inr, refl, sym, ap, subst, ℕ, ◌<◌, ◌≤◌, List, [], ◌∷◌, ◌++◌, length, append-nil, Some, Result, Ok, Err, arith}
+use Rattle.std.proofs.Common.{◌≡◌, ◌⊎◌, ◌∙◌, inl, inr, refl, sym, ap, subst, ℕ, ◌+◌, ◌<◌, ◌≤◌, List, [], ◌∷◌, ◌++◌, length, drop, get_or, Some, Result, Ok, Err, arith}
 use Rattle.std.specs.Prelude.{All, map, IsErrAnd, MatchResult, slice_get}
 use Rattle.std.specs.Option.{option_map}
+use Rattle.std.proofs.lemmas.List.{drop_more}
 use Rattle.std.proofs.lemmas.List.Elements.{All-nil}
 use Rattle.c_tree.specs.declared.tree.Item.{Item}
 use Rattle.c_tree.specs.declared.tree.Program.{Program}
@@ -36,7 +37,7 @@ walked k p start s t items known u is same f i =
 
 -- a refusal of the walk is one of the graph
 pub graph_refused : (k : EmitKind) (p : Program) (e : EmitFault) (r : Result Listed EmitFault) → Refuses (program_walk k p.items) blank e → IsErrAnd r (λ x. x ≡ e)
-    → MatchResult r (λ list. IsGraph k p list) (λ fault. (fault ≡ fault.NoMemory) ⊎ (graph_of k p ≡ Err fault))
+    → MatchResult r (λ list. IsGraph k p list) (λ f. (f ≡ fault.NoMemory) ⊎ (graph_of k p ≡ Err f))
 graph_refused k p e (Ok list) h is = absurd is
 graph_refused k p e (Err f) h is = subst (λ f. (f ≡ fault.NoMemory) ⊎ (graph_of k p ≡ Err f)) (sym is) h
 
@@ -61,3 +62,15 @@ pub list_is : (a b : Listed) → a.vertices ≡ b.vertices → a.edges ≡ b.edg
 list_is a b v e =
     ap (λ x. let l : Listed = record { vertices = x; edges = a.edges } in l) v
     ∙ ap (λ x. let l : Listed = record { vertices = b.vertices; edges = x } in l) e
+
+has_middle : (vs : List Vertex) (v : Vertex) (rest : List Vertex) → HasForm (vs ++ v ∷ rest) (length vs) v.form
+has_middle [] v rest = refl
+has_middle (x ∷ vs) v rest = has_middle vs v rest
+
+-- the next vertex names an earlier one
+pub next_below : (vs all : List Vertex) (ss : List Spot) (i : ℕ) (d : Spot) → i < length ss → vs ++ map (λ (s : Spot). shown (made s)) (drop i ss) ≡ all → IsListed all [] → IsBelow (length vs) (get_or ss i d).form
+next_below vs all ss i d h e l =
+    let x : Spot = get_or ss i d in
+    let rest = map (λ (s : Spot). shown (made s)) (drop (i + 1) ss) in
+    let split : vs ++ shown (made x) ∷ rest ≡ all = ap (λ l. vs ++ map (λ (s : Spot). shown (made s)) l) (sym (drop_more ss i d h)) ∙ e in
+    l.earlier (length vs) x.form (subst (λ l. HasForm l (length vs) x.form) split (has_middle vs (shown (made x)) rest))
