@@ -101,8 +101,8 @@ fn param_made<'p>(
     ensures made { AnswersAs (λ p. bound_of p ∷ names.old.inner) (param_step names.old.inner param.now)
         emitter.old result emitter.new }
     ensures names { IfOk result (λ p. names.new ≡ record {
-        inner = bound_of p ∷ names.old.inner;
-        outer = names.old.outer
+      inner = bound_of p ∷ names.old.inner;
+      outer = names.old.outer;
     }) }
 {
     let name = param.name.bytes.as_slice();
@@ -158,7 +158,11 @@ fn return_made<'p>(emitter: &mut Emitter<'p>, f: &'p Function) -> Result<Option<
 }
 
 /// A function's parameters and the vertex of what it gives.
-fn target_made<'p>(alloc: Global, emitter: &mut Emitter<'p>, f: &'p Function) -> Result<Target<'p>, EmitFault>
+fn target_made<'p>(
+    alloc: Global,
+    emitter: &mut Emitter<'p>,
+    f: &'p Function,
+) -> Result<Target<'p>, EmitFault>
     ensures target { AnswersAs target_of (target_step f.now) emitter.old result emitter.new }
     ensures name { IfOk result (λ t. t.name.now ≡ f.now.name.bytes) }
 {
