@@ -1,0 +1,16 @@
+pub mod Steps
+pub mod Scopes
+pub mod Layers
+pub mod Index
+pub mod Emitting
+pub mod Forms
+pub mod Kept
+pub mod Keeps
+pub mod Trees
+pub mod Programs
+pub mod Loops
+pub mod Calls
+pub mod Numbered
+pub mod Firsts
+pub mod Bodies
+pub mod Whole

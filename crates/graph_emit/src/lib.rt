@@ -1,0 +1,13 @@
+//! The graph of a program of the C subset.
+#![tactic(auto)]
+
+mod emitter;
+mod expr;
+mod fault;
+mod functions;
+mod program;
+mod stmt;
+
+pub use emit_list::{EmitEdge, EmitLabel, EmitList, VertexForm, print_edges};
+pub use fault::{EmitFault, EmitKind};
+pub use program::emit;
