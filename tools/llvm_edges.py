@@ -156,7 +156,7 @@ class Body:
         for self.line, self.text, instruction in self.function.body:
             try:
                 self.step(*instruction)
-            except (IndexError, ValueError):
+            except (IndexError, TypeError, ValueError):
                 raise NotUnderstood('%s:%d: this is no instruction: %s' % (
                     self.module.path, self.line, self.text.strip()[:SHORT])) from None
 
