@@ -27,6 +27,11 @@ class NotUnderstood(Exception):
     """The text isn't LLVM IR, or not whole; the message has the file and the line."""
 
 
+def shown(text, most=60):
+    """The front of a text, without what steers a terminal."""
+    return ''.join(c if c.isprintable() else '?' for c in text.strip()[:most])
+
+
 def group_end(text, at):
     """The place behind the group of brackets that begins at a place."""
     depth, quoted = 0, False
@@ -187,7 +192,7 @@ class Module:
         return at + 1
 
     def no_ir(self, lines, at):
-        return NotUnderstood('%s:%d: this is no LLVM IR: %s' % (self.path, at + 1, lines[at].strip()[:60]))
+        return NotUnderstood('%s:%d: this is no LLVM IR: %s' % (self.path, at + 1, shown(lines[at])))
 
     def variable(self, line):
         found = VARIABLE.match(line)
@@ -205,7 +210,7 @@ class Module:
     def function(self, lines, at):
         found = DEFINE.match(lines[at])
         if not found:
-            raise NotUnderstood('%s:%d: this is no function: %s' % (self.path, at + 1, lines[at][:60]))
+            raise NotUnderstood('%s:%d: this is no function: %s' % (self.path, at + 1, shown(lines[at])))
         name, first = found.group(1), lines[at]
         if re.search(r'^define .*?\b(internal|private)\b', first[:found.end()]):
             self.own.add(name)
@@ -240,7 +245,7 @@ class Module:
             return at
         found = INSTRUCTION.match(text)
         if not found:
-            raise NotUnderstood('%s:%d: this is no instruction: %s' % (self.path, at + 1, text.strip()[:60]))
+            raise NotUnderstood('%s:%d: this is no instruction: %s' % (self.path, at + 1, shown(text)))
         if found.group(2) == 'switch' and text.rstrip().endswith('['):
             while at + 1 < len(lines) and lines[at].strip()[:1] != ']':
                 at += 1

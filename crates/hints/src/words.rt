@@ -390,14 +390,27 @@ fn say_not_an_option(line: &mut Line, command: &str, word: &str) {
     say_help(line);
 }
 
-// Says of a command without words that one stands there.
-fn say_bare(line: &mut Line, words: &WordList) -> bool {
-    if words.len() < 2 {
-        return false;
+// The first word behind the command that isn't '--', which may stand behind any command.
+fn first_behind(words: &WordList) -> Option<&str> {
+    for at in 1..words.len() {
+        let word = words.get(at);
+        if !is_rest(word) {
+            return Some(word);
+        }
     }
+    None
+}
+
+// Says of a command without words that one stands there.
+fn say_bare(line: &mut Line, words: &WordList) -> bool
+    requires { 1 ≤ length words.now }
+{
+    let Some(word) = first_behind(words) else {
+        return false;
+    };
     line.text(words.get(0));
     line.text(" takes nothing more, and ");
-    line.quoted(words.get(1).as_bytes());
+    line.quoted(word.as_bytes());
     line.text(" stands behind it");
     say_help(line);
     true
