@@ -60,7 +60,7 @@ def main(words):
     parser.add_argument('--find', metavar='TEXT')
     given = parser.parse_args(words)
     for stream in (sys.stdin, sys.stdout):
-        stream.reconfigure(errors='surrogateescape')
+        stream.reconfigure(encoding='utf-8', errors='surrogateescape')
     try:
         names = names_of(given.edges)
         if not names:

@@ -352,6 +352,7 @@ def main(words):
     parser.add_argument('--fields', choices=['one', 'named'], default='one')
     parser.add_argument('paths', nargs='+', metavar='FILE.ll')
     given = parser.parse_args(words)
+    sys.stdout.reconfigure(encoding='utf-8')
     try:
         modules = [Module(path) for path in given.paths]
         if not any(module.functions for module in modules):

@@ -177,7 +177,7 @@ fn words_without_a_reading_say_which_word(rt: HostRuntime) -> Result<(), Fail> {
 fn the_folder_comes_first(rt: HostRuntime) -> Result<(), Fail> {
     let none = WordList::new(rt.alloc());
     let two = words_of(rt.alloc(), "e g")?;
-    let rows: [(&str, &WordList, &str); 4] = [
+    let rows: [(&str, &WordList, &str); 5] = [
         (
             "",
             &none,
@@ -192,6 +192,11 @@ fn the_folder_comes_first(rt: HostRuntime) -> Result<(), Fail> {
             "--hepl",
             &none,
             "graspan: there is no option --hepl (graspan --help)",
+        ),
+        (
+            "--worker",
+            &two,
+            "graspan: there is no option --worker (graspan --help)",
         ),
         (
             "run",

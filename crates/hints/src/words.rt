@@ -484,6 +484,8 @@ pub(crate) fn say_words(line: &mut Line, folder: &str, words: &WordList) {
         say_no_folder(line);
     } else if words.len() == 0 {
         say_alone(line, folder);
+    } else if is_dashed(folder) && !is_one_of(words.get(0), &COMMANDS) {
+        say_alone(line, folder);
     } else if has_empty(words) {
         line.text("a word of the command is empty");
         say_help(line);
