@@ -1,6 +1,6 @@
 use Rattle.std.proofs.Common.{◌≤◌, length, arith, refl}
-use Rattle.pair_bench.proofs.Ascending.{ascend_one, ascend_more}
-use Rattle.pair_bench.proofs.loading.ascend.Goals as goal
+use Rattle.bench.proofs.Ascending.{ascend_one, ascend_more}
+use Rattle.bench.proofs.rows.ascend.Goals as goal
 
 pub loop-place-init : goal.loop-place-init
 loop-place-init c = ascend_one c.args.edges.now

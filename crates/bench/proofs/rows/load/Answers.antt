@@ -1,8 +1,8 @@
 use Rattle.std.proofs.Common.{refl, ap, ◌∙◌}
 use Rattle.partition_file.specs.Spelling.{Part}
 use Rattle.row_table.specs.Loaded.{Loaded}
-use Rattle.pair_bench.proofs.Ascending.{absorbed_fit}
-use Rattle.pair_bench.proofs.loading.load.Goals as goal
+use Rattle.bench.proofs.Ascending.{absorbed_fit}
+use Rattle.bench.proofs.rows.load.Goals as goal
 
 pub returns-clause-format : goal.returns-clause-format
 returns-clause-format c =

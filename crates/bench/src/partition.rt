@@ -1,6 +1,4 @@
-//! Times the codec of partition files on one million edges: times go to standard error, what was checked to standard output.
-#![tactic(auto)]
-
+//! Times the codec of partition files on one million edges.
 ghost use Rattle.std.specs.Prelude.{◌+◌, ◌<◌, ◌≤◌, ◌^◌, length};
 ghost use Rattle.partition_file.specs.Reader.{taken};
 
@@ -93,7 +91,8 @@ fn time_round(
     println!(rt; "{count} edges, the same bytes: {same}")
 }
 
-fn main(rt: HostRuntime) -> io::Result<()> {
+/// Times the codec, round by round.
+pub(crate) fn measure<R: AllocGlobal + Clock + Print + Eprint>(rt: &R) -> io::Result<()> {
     let alloc = rt.alloc();
     let expect = Expect {
         lo: 0,
@@ -105,7 +104,7 @@ fn main(rt: HostRuntime) -> io::Result<()> {
     };
     let bytes = bytes_of(alloc)?;
     for _ in 0..ROUNDS {
-        time_round(&rt, alloc, &bytes, expect)?;
+        time_round(rt, alloc, &bytes, expect)?;
     }
     Ok(())
 }

@@ -2,7 +2,7 @@
 ghost use Rattle.std.specs.Prelude.{◌≡◌, ◌+◌, ◌<◌, ◌≤◌, ◌^◌, All, IsTrue, IfOk, IfSome};
 ghost use Rattle.graph_words.specs.Reach.{IsAscending, IsBefore};
 ghost use Rattle.superstep.specs.Room.{IsInFormat, capacity_of};
-ghost use Rattle.pair_bench.specs.Fits.{FitsEdge};
+ghost use Rattle.bench.specs.Fits.{FitsEdge};
 
 use graph_words::{Edge, EdgeList};
 use partition_file::Partition;

@@ -10,7 +10,7 @@ use Rattle.graph_words.specs.Reach.{IsBefore}
 use Rattle.closing_machine.specs.Rounds.{all_born, born}
 use Rattle.row_table.specs.Loaded.{Loaded, Absorbs}
 use Rattle.superstep.specs.Room.{IsInFormat}
-use Rattle.pair_bench.specs.Fits.{FitsEdge}
+use Rattle.bench.specs.Fits.{FitsEdge}
 
 before_trans : (x y z : Edge) → IsBefore x y → IsBefore y z → IsBefore x z
 before_trans x y z p q = grind (arith, p, q)

@@ -1,15 +1,9 @@
-//! Times the import of an edge file: `import_bench EDGES GRAMMAR FOLDER LIMIT`.
-//!
-//! Standard output says what was made, and standard error how many microseconds it took.
-#![tactic(auto)]
-
-mod files;
-
-use files::{FolderDisk, PathInputs};
+//! Times the import of an edge file.
+use crate::files::{FolderDisk, PathInputs};
 use grammar_norm::read_grammar;
 use std::rt::{Clock, Files};
 use std::time::Instant;
-use std::{env, fs, io};
+use std::{fs, io};
 use store::{OpenMode, Opened, Store, StoreFault, import, open};
 
 // Imports to a folder without a store.
@@ -62,17 +56,17 @@ fn time<R: Files + AllocGlobal + Clock + Print + Eprint>(
     }
 }
 
-fn main(rt: HostRuntime) -> io::Result<()> {
-    let mut words = Vec::new(rt.alloc());
-    for word in env::args(&rt)?.skip(1) {
-        words.push(word)?;
-    }
-    let [edges, grammar, folder, limit] = words.as_slice() else {
-        return println!(rt; "wanted: EDGES GRAMMAR FOLDER LIMIT");
-    };
-    let Ok(limit) = limit.as_str().parse::<u64>() else {
+/// Imports an edge file as partitions of at most so many edge lines, to a folder that is there.
+pub(crate) fn measure<R: Files + AllocGlobal + Clock + Print + Eprint>(
+    rt: &R,
+    edges: &str,
+    grammar: &str,
+    folder: &str,
+    limit: &str,
+) -> io::Result<()> {
+    let Ok(limit) = limit.parse::<u64>() else {
         return println!(rt; "the limit is no number");
     };
-    let grammar = fs::read(&rt, grammar.as_str())?;
-    time(&rt, edges.as_str(), &grammar, folder.as_str(), limit)
+    let grammar = fs::read(rt, grammar)?;
+    time(rt, edges, &grammar, folder, limit)
 }
