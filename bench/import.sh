@@ -13,7 +13,7 @@ awk -v n=$lines 'BEGIN {
 }' >"$folder/edges"
 printf 'S a b\nS S S\n' >"$folder/grammar"
 rustc --edition 2021 -O -o "$folder/plain" "$top/bench/import_plain.rs"
-(cd "$top/crates/import_bench" && rt run >"$folder/build" 2>&1) || true
+(cd "$top/crates/bench" && rt run) >"$folder/build" 2>&1 || { cat "$folder/build" >&2; exit 1; }
 # Words: a name for the row, and the command.
 timed() {
     name=$1
@@ -24,7 +24,7 @@ timed() {
 import() {
     rm -rf "$folder/store"
     mkdir "$folder/store"
-    timed "$1" "$top/crates/import_bench/out/import_bench" "$folder/edges" "$folder/grammar" "$folder/store" "$2"
+    timed "$1" "$top/crates/bench/out/bench" import "$folder/edges" "$folder/grammar" "$folder/store" "$2"
 }
 for round in 1 2 3 4 5; do
     timed 'wc -l' wc -l "$folder/edges"

@@ -6,8 +6,8 @@ top=$(cd "$(dirname "$0")/.." && pwd)
 folder=$(mktemp -d)
 trap 'rm -rf "$folder"' EXIT
 rustc --edition 2021 -O -o "$folder/plain" "$top/bench/partition_plain.rs"
-(cd "$top/crates/partition_bench" && rt run >"$folder/build" 2>&1)
-"$top/crates/partition_bench/out/partition_bench" 2>"$folder/ours" >/dev/null
+(cd "$top/crates/bench" && rt run) >"$folder/build" 2>&1 || { cat "$folder/build" >&2; exit 1; }
+"$top/crates/bench/out/bench" partition 2>"$folder/ours" >/dev/null
 "$folder/plain" >"$folder/theirs"
 awk '
     function least(name, time) { if (!(name in best) || time < best[name]) best[name] = time }

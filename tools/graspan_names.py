@@ -11,13 +11,18 @@ import os
 import sys
 
 
+def vertex(word):
+    """The number that a word is, or None; numbers of vertices have at most eight digits."""
+    return int(word) if word.isascii() and word.isdigit() and len(word) <= 8 else None
+
+
 def names_in(lines):
     """The name of each vertex that lines of an edge file name."""
     names = {}
     for line in lines:
         words = line.rstrip('\r\n').split(None, 2)
-        if len(words) == 3 and words[0] == '#' and words[1].isascii() and words[1].isdigit():
-            names[int(words[1])] = words[2]
+        if len(words) == 3 and words[0] == '#' and vertex(words[1]) is not None:
+            names[vertex(words[1])] = words[2]
     return names
 
 
@@ -29,9 +34,9 @@ def names_of(path):
 def rewritten(line, names):
     """An answer with names; any other line as it is."""
     words = line.split()
-    if len(words) != 3 or words[0] != 'answer' or not (words[1] + words[2]).isdigit():
+    if len(words) != 3 or words[0] != 'answer' or None in map(vertex, words[1:]):
         return line
-    source, destination = (names.get(int(word), word) for word in words[1:])
+    source, destination = (names.get(vertex(word), word) for word in words[1:])
     return 'answer %s  ->  %s\n' % (source, destination)
 
 
@@ -55,7 +60,7 @@ def main(words):
     parser.add_argument('--find', metavar='TEXT')
     given = parser.parse_args(words)
     for stream in (sys.stdin, sys.stdout):
-        stream.reconfigure(errors='surrogateescape')
+        stream.reconfigure(encoding='utf-8', errors='surrogateescape')
     try:
         names = names_of(given.edges)
         if not names:

@@ -66,5 +66,9 @@ def dot(label, centre, arrows, names):
 
 
 def write(path, text):
-    with open(path, 'w') as out:
+    with open(path, 'w', encoding='utf-8') as out:
         out.write(text)
+
+
+def write_svg(_, manifest, path):
+    write(path, svg(manifest))

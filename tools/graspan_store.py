@@ -12,7 +12,8 @@ It only reads. A store that is damaged, or of a later format, ends it with statu
 import os
 import struct
 import sys
-from collections import namedtuple
+from bisect import bisect_right
+from collections import Counter, namedtuple
 
 import graspan_names
 import graspan_pictures
@@ -46,8 +47,11 @@ class Bytes:
         self.at += count
         return self.bytes[self.at - count:self.at]
 
-    def number(self, count):
-        return int.from_bytes(self.take(count), 'little')
+    def number(self, count, least=0, most=1 << 64):
+        value = int.from_bytes(self.take(count), 'little')
+        if not least <= value <= most:
+            self.refuse('%d is out of its range' % value, self.at - count)
+        return value
 
     def magic(self, wanted):
         found = self.take(4)
@@ -63,22 +67,25 @@ class Manifest:
     def __init__(self, slot):
         slot.at = 1
         slot.magic(b'GSM1')
-        self.generation = slot.number(1)
-        self.round = slot.number(8)
-        self.vertices = slot.number(4)
-        self.grammar_length, self.edges_length = slot.number(8), slot.number(8)
-        self.labels = [slot.take(slot.number(1)).decode('latin-1') for _ in range(slot.number(2))]
-        self.parts = []
-        for number in range(slot.number(2)):
-            at, lo = slot.at, self.parts[-1].hi if self.parts else 0
-            self.parts.append(Part(number, lo, slot.number(4), slot.number(4), slot.number(8)))
-            if self.parts[-1].hi <= lo:
-                slot.refuse("the ends of the partitions don't ascend", at)
-        if (self.parts[-1].hi if self.parts else 0) != self.vertices:
-            slot.refuse("the partitions don't cover the vertices")
-        size = len(self.parts)
-        self.counts = [[slot.number(8) for _ in range(size)] for _ in range(size)]
-        self.marks = [[slot.number(8) for _ in range(size)] for _ in range(size)]
+        self.generation = slot.number(1, 0, 2)
+        self.round = slot.number(8, 1)
+        self.vertices = slot.number(4, 0, 1 << 24)
+        self.grammar_length, self.edges_length = slot.number(8, 0, 1 << 24), slot.number(8, 0, 1 << 40)
+        self.labels = [slot.take(slot.number(1, 1, 64)).decode('latin-1') for _ in range(slot.number(2, 0, FRESH))]
+        if len(set(self.labels)) < len(self.labels) or not all('!' <= c <= '~' for c in ''.join(self.labels)):
+            slot.refuse('a label is none, or stands twice')
+        self.parts, at, lo = [], slot.at, 0
+        for number in range(slot.number(2, 0, min(256, self.vertices))):
+            hi, file = slot.number(4, lo + 1, self.vertices), slot.number(4, 4, 1023)
+            self.parts.append(Part(number, lo, hi, file, slot.number(8, 0, self.round - 1)))
+            lo = hi
+        if lo != self.vertices or len({part.file for part in self.parts}) < len(self.parts):
+            slot.refuse("the partitions don't cover the vertices, or share a file", at)
+        widths = [part.hi - part.lo for part in self.parts]
+        self.counts = [[slot.number(8, 0, one * other * 63000) for other in widths] for one in widths]
+        self.marks = [[slot.number(8, 0, self.round) for _ in widths] for _ in widths]
+        if self.round > 1 + sum(map(sum, self.counts)):
+            slot.refuse('%d is out of its range' % self.round, 6)
 
     def has_work(self, i, j):
         """Whether edges lead from i to j, and one of the two has an edge that isn't joined up to their mark."""
@@ -96,11 +103,10 @@ def current(store):
     if not slots:
         raise Refused('%s holds no store: nothing was imported here, or not to its end' % store)
     manifests = [Manifest(slot) for slot in slots]
-    if len(manifests) == 2 and manifests[0].generation == (manifests[1].generation + 1) % 3:
-        return manifests[0]
-    if len(manifests) == 2 and manifests[0].generation == manifests[1].generation:
+    first, last = manifests[0].generation, manifests[-1].generation
+    if len(manifests) == 2 and first == last:
         slots[1].refuse('both slots have one generation', 5)
-    return manifests[-1]
+    return manifests[0 if first == (last + 1) % 3 else -1]
 
 
 def edges(store, manifest, part):
@@ -109,17 +115,21 @@ def edges(store, manifest, part):
     file.magic(b'GSP1')
     if (file.number(4), file.number(4)) != (part.lo, part.hi):
         file.refuse('it is of another interval of vertices', 4)
+    starts, counts, newest = [other.lo for other in manifest.parts], [0] * len(manifest.parts), 0
     for source in range(part.lo, part.hi):
         last = None
         for label, destination, birth in struct.iter_unpack('<HIQ', file.take(14 * file.number(8))):
-            if len(manifest.labels) <= label < FRESH or destination >= manifest.vertices:
-                file.refuse('an edge of vertex %d has no such label or vertex' % source)
+            if len(manifest.labels) <= label < FRESH or destination >= manifest.vertices or birth >= manifest.round:
+                file.refuse('an edge of vertex %d has a label, vertex or birth that there is not' % source)
             if last is not None and (label, destination) <= last:
                 file.refuse("the edges of vertex %d don't ascend" % source)
-            last = (label, destination)
+            last, newest = (label, destination), max(newest, birth)
+            counts[bisect_right(starts, destination) - 1] += 1
             yield source, label, destination, birth
     if file.at != len(file.bytes):
         file.refuse('bytes stand behind its end')
+    if (counts, newest) != (manifest.counts[part.number], part.newest):
+        file.refuse('it has other edges than the manifest counts', 0)
 
 
 def all_edges(store, manifest):
@@ -135,11 +145,9 @@ def print_parts(store, manifest):
 
 
 def print_labels(store, manifest):
-    counts = [0] * len(manifest.labels)
-    for _, label, _, _ in all_edges(store, manifest):
-        counts[label] += 1
-    for name, count in zip(manifest.labels, counts):
-        print('label %s %d' % (name, count))
+    counts = Counter(label for _, label, _, _ in all_edges(store, manifest))
+    for number, name in enumerate(manifest.labels):
+        print('label %s %d' % (name, counts[number]))
 
 
 def print_dump(store, manifest, wanted=None):
@@ -155,27 +163,19 @@ def label_number(manifest, name):
     return manifest.labels.index(name)
 
 
-def names_of(store, manifest):
-    """The names of vertices that the kept edge file gives."""
-    text = Bytes(store, 3).bytes[:manifest.edges_length].decode('utf-8', 'replace')
-    return graspan_names.names_in(text.split('\n'))
-
-
-def write_svg(store, manifest, path):
-    graspan_pictures.write(path, graspan_pictures.svg(manifest))
-
-
 def write_dot(store, manifest, label, vertex, path):
-    number, centre = label_number(manifest, label), int(vertex)
+    number, centre = label_number(manifest, label), int(vertex) if vertex.isdecimal() else manifest.vertices
     if centre >= manifest.vertices:
-        raise Refused('there is no vertex %d; there are %d, from 0 on' % (centre, manifest.vertices))
+        raise Refused('there is no vertex %s; there are %d, from 0 on' % (vertex, manifest.vertices))
     arrows = [(s, d) for s, l, d, _ in all_edges(store, manifest) if l == number and centre in (s, d)]
-    graspan_pictures.write(path, graspan_pictures.dot(label, centre, arrows, names_of(store, manifest)))
+    kept = Bytes(store, 3).bytes[:manifest.edges_length].decode('utf-8', 'replace')
+    names = graspan_names.names_in(kept.split('\n'))
+    graspan_pictures.write(path, graspan_pictures.dot(label, centre, arrows, names))
 
 
 # A command: what carries it out, and the least and the greatest number of words behind it.
 COMMANDS = {'parts': (print_parts, 0, 0), 'labels': (print_labels, 0, 0), 'dump': (print_dump, 0, 1),
-            'svg': (write_svg, 1, 1), 'dot': (write_dot, 3, 3)}
+            'svg': (graspan_pictures.write_svg, 1, 1), 'dot': (write_dot, 3, 3)}
 
 
 def main(words):

@@ -25,7 +25,8 @@ import os
 import sys
 from collections import Counter
 
-from llvm_text import Module, NotUnderstood, Reader, carries_pointers, globals_in, split_list, split_type, value_of
+from llvm_text import (Module, NotUnderstood, Reader, carries_pointers, globals_in, shown, split_list, split_type,
+                       value_of)
 
 MOST_VERTICES = 16777216
 ALLOCATES = {'malloc', 'calloc', 'realloc', 'reallocarray', 'strdup', 'strndup', 'aligned_alloc', 'memalign',
@@ -81,7 +82,7 @@ class Graph:
         out.writelines('# %s\n' % line for line in head)
         for number, (text, place) in enumerate(zip(self.texts, self.places)):
             name = ' '.join((text + ' ' + place).split())
-            out.write('# %d %s\n' % (number, ''.join(c if c.isprintable() else '?' for c in name)))
+            out.write('# %d %s\n' % (number, shown(name, len(name))))
         out.writelines('%d %d %s\n' % edge for edge in dict.fromkeys(self.edges))
 
 
@@ -156,9 +157,9 @@ class Body:
         for self.line, self.text, instruction in self.function.body:
             try:
                 self.step(*instruction)
-            except (IndexError, ValueError):
+            except (IndexError, TypeError, ValueError):
                 raise NotUnderstood('%s:%d: this is no instruction: %s' % (
-                    self.module.path, self.line, self.text.strip()[:SHORT])) from None
+                    self.module.path, self.line, shown(self.text))) from None
 
     def register_key(self, name):
         return ('%', self.key, name)
@@ -351,6 +352,7 @@ def main(words):
     parser.add_argument('--fields', choices=['one', 'named'], default='one')
     parser.add_argument('paths', nargs='+', metavar='FILE.ll')
     given = parser.parse_args(words)
+    sys.stdout.reconfigure(encoding='utf-8')
     try:
         modules = [Module(path) for path in given.paths]
         if not any(module.functions for module in modules):

@@ -27,6 +27,11 @@ class NotUnderstood(Exception):
     """The text isn't LLVM IR, or not whole; the message has the file and the line."""
 
 
+def shown(text, most=60):
+    """The front of a text, without what steers a terminal."""
+    return ''.join(c if c.isprintable() else '?' for c in text.strip()[:most])
+
+
 def group_end(text, at):
     """The place behind the group of brackets that begins at a place."""
     depth, quoted = 0, False
@@ -163,7 +168,10 @@ class Module:
         self.metadata = self.read_metadata(lines)
         at = 0
         while at < len(lines):
-            at = self.top_level(lines, at)
+            try:
+                at = self.top_level(lines, at)
+            except (IndexError, ValueError):
+                raise self.no_ir(lines, at) from None
         self.length = len(lines)
 
     @staticmethod
@@ -176,12 +184,15 @@ class Module:
         if line.startswith('define '):
             return self.function(lines, at)
         if line.strip() and not TOP_LEVEL.match(line):
-            raise NotUnderstood('%s:%d: this is no LLVM IR: %s' % (self.path, at + 1, line.strip()[:60]))
+            raise self.no_ir(lines, at)
         if line.startswith('declare '):
             self.declares.update(globals_in(line)[:1])
         elif line.startswith('@'):
             self.variable(line)
         return at + 1
+
+    def no_ir(self, lines, at):
+        return NotUnderstood('%s:%d: this is no LLVM IR: %s' % (self.path, at + 1, shown(lines[at])))
 
     def variable(self, line):
         found = VARIABLE.match(line)
@@ -199,7 +210,7 @@ class Module:
     def function(self, lines, at):
         found = DEFINE.match(lines[at])
         if not found:
-            raise NotUnderstood('%s:%d: this is no function: %s' % (self.path, at + 1, lines[at][:60]))
+            raise NotUnderstood('%s:%d: this is no function: %s' % (self.path, at + 1, shown(lines[at])))
         name, first = found.group(1), lines[at]
         if re.search(r'^define .*?\b(internal|private)\b', first[:found.end()]):
             self.own.add(name)
@@ -234,7 +245,7 @@ class Module:
             return at
         found = INSTRUCTION.match(text)
         if not found:
-            raise NotUnderstood('%s:%d: this is no instruction: %s' % (self.path, at + 1, text.strip()[:60]))
+            raise NotUnderstood('%s:%d: this is no instruction: %s' % (self.path, at + 1, shown(text)))
         if found.group(2) == 'switch' and text.rstrip().endswith('['):
             while at + 1 < len(lines) and lines[at].strip()[:1] != ']':
                 at += 1
@@ -264,22 +275,32 @@ class Module:
             return None
         return found.group(1) if found.group(1) is not None else int(found.group(2))
 
+    def name_of(self, number):
+        """The name that a node has, or None."""
+        name = self.field(number, 'name')
+        return name if isinstance(name, str) else None
+
+    def line_of(self, number):
+        """The line that a node names, or 0."""
+        line = self.field(number, 'line')
+        return line if isinstance(line, int) else 0
+
     def line(self, text):
         at = AT_LINE.search(text)
-        return self.field(int(at.group(1)), 'line') if at else None
+        return self.line_of(int(at.group(1))) if at else 0
 
     def file_of(self, number):
         file = self.field(number, 'file')
         name = self.field(file, 'filename') if isinstance(file, int) else None
-        return os.path.basename(name or self.path)
+        return os.path.basename(name if isinstance(name, str) and name else self.path)
 
     def subprogram(self, number):
-        return self.file_of(number), self.field(number, 'line') or 0
+        return self.file_of(number), self.line_of(number)
 
     def variable_place(self, number):
         var = self.field(number, 'var')
         var = number if var is None else var
-        return '(%s:%s)' % (self.file_of(var), self.field(var, 'line') or 0)
+        return '(%s:%d)' % (self.file_of(var), self.line_of(var))
 
     def place_of(self, name):
         if not hasattr(self, 'places'):
@@ -290,7 +311,7 @@ class Module:
     def declared(self, function):
         """The registers that hold addresses of declared variables, with the names and lines of these."""
         for register, number in self.declared_in.get(function.name, []):
-            yield register, Declared(self.field(number, 'name') or register[1:], self.field(number, 'line') or 0)
+            yield register, Declared(self.name_of(number) or register[1:], self.line_of(number))
 
     def fields(self, held):
         """The names of a struct's fields, where the debug information has them."""
@@ -305,6 +326,6 @@ class Module:
                 continue
             elements = self.field(number, 'elements')
             members = re.findall(r'![0-9]+', self.metadata.get(elements, ''))
-            names = [self.field(int(member[1:]), 'name') or '?' for member in members]
-            if names and self.field(number, 'name'):
-                yield self.field(number, 'name'), names
+            names = [self.name_of(int(member[1:])) or '?' for member in members]
+            if names and self.name_of(number):
+                yield self.name_of(number), names

@@ -8,6 +8,7 @@ import unittest
 from program import TOOLS
 
 EDGES = '# a comment\n# 0 &x in f (x.c:1)\n# 1 *p in f (x.c:3)\n# 12 *p in g (x.c:9)\n#3 no name\n0 1 a\n'
+NO_NUMBER = '# %s a number of 5000 digits\n' % ('9' * 5000)
 
 
 class Names(unittest.TestCase):
@@ -19,9 +20,10 @@ class Names(unittest.TestCase):
                                   input=given, capture_output=True, text=True)
 
     def test_answers_are_rewritten(self):
-        done = self.run_on(['x.edges'], 'answer 0 1\nanswer 12 7\ncount 2\ndone\nanswer x 1\n')
+        lines = 'answer 0 1\nanswer 12 7\ncount 2\ndone\nanswer x 1\nanswer \u00b2 1\n'
+        done = self.run_on(['x.edges'], lines, EDGES + NO_NUMBER)
         self.assertEqual(done.stdout, 'answer &x in f (x.c:1)  ->  *p in f (x.c:3)\n'
-                         'answer *p in g (x.c:9)  ->  7\ncount 2\ndone\nanswer x 1\n')
+                         'answer *p in g (x.c:9)  ->  7\ncount 2\ndone\nanswer x 1\nanswer \u00b2 1\n')
 
     def test_numbers_are_found(self):
         self.assertEqual(self.run_on(['x.edges', '--find', '*p']).stdout, '1 *p in f (x.c:3)\n12 *p in g (x.c:9)\n')

@@ -54,17 +54,22 @@ class WorkedExample(unittest.TestCase):
         other = dict(FILES, g0005=b'GSP9' + PARTITION[4:])
         cut = dict(FILES, g0005=PARTITION[:50])
         blank = dict(FILES, g0001=b'\0' + MANIFEST[1:])
+        late = dict(FILES, g0005=PARTITION[:26] + b'\2' + PARTITION[27:])
+        fewer = dict(FILES, g0005=PARTITION[:26] + b'\0' + PARTITION[27:])
+        rounds = dict(FILES, g0001=MANIFEST[:6] + b'\5' + MANIFEST[7:])
         for files, message in ((later, 'store/g0001 is of another format'), (short, 'store/g0001 is damaged at byte'),
                                (extra, 'store/g0005 is damaged at byte 78: bytes stand behind its end'),
                                (other, 'store/g0005 is of another format'), (cut, 'store/g0005 is damaged at byte'),
+                               (late, 'store/g0005 is damaged at byte'), (rounds, 'store/g0001 is damaged at byte 6'),
+                               (fewer, 'store/g0005 is damaged at byte 0: it has other edges than the manifest counts'),
                                (blank, 'store holds no store')):
             with self.subTest(message):
                 done = self.reads(files, ['dump'])
                 self.assertEqual(done.returncode, 1)
                 self.assertIn(message, done.stderr)
                 self.assertNotIn('Traceback', done.stderr)
-        for words in (['dump', 'Z'], ['dot', 'S', '3', 'x.dot'], ['dot', 'S', 'x', 'x.dot'], ['svg', 'no/such/x.svg'],
-                      ['paint'], []):
+        for words in (['dump', 'Z'], ['dot', 'S', '3', 'x.dot'], ['dot', 'S', 'x', 'x.dot'],
+                      ['dot', 'S', '-1', 'x.dot'], ['svg', 'no/such/x.svg'], ['paint'], []):
             with self.subTest(words):
                 done = self.reads(FILES, words)
                 self.assertEqual(done.returncode, 1)

@@ -87,6 +87,9 @@ REFUSED = {
     'no instruction': ('define void @f() {\n  !!\n}\n', 'x.ll:2: this is no instruction: !!'),
     'a bracket without an end': (
         'define void @f() {\n  %x = load [2 x ptr, ptr %p\n}\n', 'x.ll:2: this is no instruction'),
+    'a head without an end': (
+        'define void @f(ptr %p {\n  ret void\n}\n', 'x.ll:1: this is no LLVM IR: define void @f(ptr %p {'),
+    'a result that is missing': ('define void @f() {\n  alloca ptr\n}\n', 'x.ll:2: this is no instruction: alloca ptr'),
     'bytes': ('\x00\x01\x02', 'x.ll:1: this is no LLVM IR'),
 }
 

@@ -1,12 +1,14 @@
 """The line of progress: seen on a terminal and gone at the end, and never in the way of what is printed."""
 import os
 import pty
+import re
 import subprocess
 import tempfile
 import unittest
 
 from program import PROGRAM, graspan, needs_program
 
+CONTROL = re.compile('\x1b\\[K|\x1b\\[\\?7[lh]|[^\x1b]')
 CHAIN = '\n'.join('%d %d a' % (v, v + 1) for v in range(1500)) + '\n'
 
 
@@ -29,6 +31,25 @@ def on_a_terminal(words, folder, env):
     status = process.wait()
     with open(os.path.join(folder, 'out')) as out:
         return text.decode(), out.read(), status
+
+
+def rows_shown(text, columns):
+    """How many rows of a terminal of so many columns the text takes, and what stands on the last one at the end."""
+    rows, column, wraps = [[]], 0, True
+    for token in CONTROL.findall(text):
+        if token == '\r':
+            column = 0
+        elif token == '\x1b[K':
+            del rows[-1][column:]
+        elif token.startswith('\x1b'):
+            wraps = token.endswith('h')
+        else:
+            if column == columns and wraps:
+                rows.append([])
+            column = min(column, columns - 1) if not wraps else column % columns
+            rows[-1][column:column + 1] = [token]
+            column += 1
+    return len(rows), ''.join(rows[-1])
 
 
 def said_by(words, folder, env):
@@ -63,6 +84,12 @@ class Progress(unittest.TestCase):
         self.assertNotIn('\n', text)
         plain = graspan(self.run_words('t'), self.folder.name, env=self.environment('0'))
         self.assertEqual(out, plain.stdout)
+
+    def test_a_narrow_terminal_keeps_it_on_one_row(self):
+        text, _, status = on_a_terminal(self.run_words('s'), self.folder.name, self.environment(None))
+        self.assertEqual(status, 0)
+        self.assertRegex(text, 'closing  step [^\r\x1b]{40}')
+        self.assertEqual(rows_shown(text, 40), (1, ''))
 
     def test_it_is_never_seen_where_that_is_asked(self):
         text, _, _ = on_a_terminal(self.run_words('s'), self.folder.name, self.environment('0'))

@@ -1,5 +1,5 @@
 -- Refusals of what is written in one of two ways, and what counts within a room.
-use Rattle.std.proofs.Common.{◌≡◌, sym, subst, ℕ, ◌≤◌, Bool}
+use Rattle.std.proofs.Common.{◌≡◌, refl, sym, subst, ℕ, ◌≤◌, Bool}
 use Rattle.std.specs.Prelude.{Result, Ok, Err, IsErrAnd}
 use Rattle.c_tree.specs.declared.fault.Wrong.{Wrong}
 use Rattle.c_tree.specs.declared.fault.Wrong.TheVariants.{Unexpected, TooDeep}
@@ -8,6 +8,7 @@ use Rattle.c_tree.specs.declared.fault.ReadFault.TheVariants as fault
 use Rattle.c_tree.specs.Said.{Said}
 use Rattle.c_tree.specs.Tokens.{Source}
 use Rattle.c_tree.specs.Reading.{Counts, RefusesAt, Answers}
+use Rattle.c_tree.proofs.Handed.{handed_on}
 use Rattle.c_parser.specs.Flagged.{AnswersFlagged}
 
 pub counts_within : (why : Wrong) (room levels : ℕ) → levels ≤ room → Counts why room levels
@@ -23,14 +24,10 @@ plain_fault : {T : Type 0} (said : Bool × T → Said) (s : Source) (at room : �
 plain_fault said s at room (fault.At token why) a = a
 plain_fault said s at room fault.NoMemory a = tt
 
-carried : {A B : Type 0} (sa : A → Said) (sb : B → Said) (s : Source) (at room at' room' : ℕ) → ((token : ℕ) (why : Wrong) → RefusesAt sa s at room token why → RefusesAt sb s at' room' token why) → (e : ReadFault) → Answers sa s at room (Err e) → Answers sb s at' room' (Err e)
-carried sa sb s at room at' room' f (fault.At token why) a = f token why a
-carried sa sb s at room at' room' f fault.NoMemory a = tt
-
 -- what a part refuses, the whole refuses there
 pub flagged_on : {A B : Type 0} (sa : A → Said) (sb : Bool × B → Said) (s : Source) (at room at' room' : ℕ) → ((token : ℕ) (why : Wrong) → RefusesAt sa s at room token why → RefusesAt sb s at' room' token why) → (e : ReadFault) → Answers sa s at room (Err e) → (r : Result (B × ℕ) ReadFault) → IsErrAnd r (λ x. x ≡ e) → AnswersFlagged sb s at' room' r
 flagged_on sa sb s at room at' room' f e a (Ok x) is = absurd is
-flagged_on sa sb s at room at' room' f e a (Err x) is = subst (λ x. AnswersFlagged sb s at' room' (Err x)) (sym is) (flagged_fault sb s at' room' e (carried sa sb s at room at' room' f e a))
+flagged_on sa sb s at room at' room' f e a (Err x) is = subst (λ x. AnswersFlagged sb s at' room' (Err x)) (sym is) (flagged_fault sb s at' room' e (handed_on sa sb s at room at' room' f e a (Err e) refl))
 
 -- the same, of a part that is itself written in one of two ways
 pub flagged_both : {A B : Type 0} (sa : Bool × A → Said) (sb : Bool × B → Said) (s : Source) (at room at' room' : ℕ) → ((token : ℕ) (why : Wrong) → RefusesAt sa s at room token why → RefusesAt sb s at' room' token why) → (e : ReadFault) → AnswersFlagged sa s at room (Err e) → (r : Result (B × ℕ) ReadFault) → IsErrAnd r (λ x. x ≡ e) → AnswersFlagged sb s at' room' r

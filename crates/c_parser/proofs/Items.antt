@@ -1,28 +1,28 @@
 -- Items, at a place of the tokens: what stands behind the name, and both together.
 use Rattle.std.proofs.Common.{◌≡◌, ◌≢◌, ◌∙◌, ◌⊎◌, inl, inr, refl, sym, ap, ℕ, Bool, true, false, List, [], ◌∷◌, ◌++◌, Some, None, arith}
-use Rattle.std.specs.Prelude.{Option}
+use Rattle.std.specs.Prelude.{map, Option}
 use Rattle.c_lexer.specs.declared.token.TokenKind.TheVariants as k
 use Rattle.c_tree.specs.declared.tree.Base.{Base}
 use Rattle.c_tree.specs.declared.tree.Param.{Param}
-use Rattle.c_tree.specs.declared.tree.Stmt.{Stmt}
 use Rattle.c_tree.specs.declared.tree.Expr.{Expr}
 use Rattle.c_tree.specs.declared.tree.Var.{Var}
+use Rattle.c_tree.specs.declared.tree.Function.{Function}
 use Rattle.c_tree.specs.declared.tree.Item.TheVariants as item
 use Rattle.c_tree.specs.declared.fault.Wrong.{Wrong}
 use Rattle.c_tree.specs.Said.{Kind, Said, stars, named, ◌⨾◌}
 use Rattle.c_tree.specs.Tokens.{Source, kind_at}
-use Rattle.c_tree.specs.Grammar.{is_open, base_said, param_said, value_said, more_vars, vars_said, expr_said}
+use Rattle.c_tree.specs.Grammar.{is_open, base_said, param_said, value_said, more_vars, expr_said, stmt_said}
 use Rattle.c_tree.specs.Reading.{ReadsAt, RefusesAt}
 use Rattle.c_tree.proofs.Parts.{seq, seq_joined, TurnIf, Least, Joined}
 use Rattle.c_tree.proofs.Places.{joined_at, first_refused_at, second_refused_at, turn_if_at, turn_if_refused_at}
 use Rattle.c_tree.proofs.Choices.{Headed, not_first, not_headed, quiet_parted, headed_parted}
 use Rattle.c_parser.specs.declared.item.FunctionRest.{FunctionRest}
-use Rattle.c_parser.specs.Branches.{block_of}
 use Rattle.c_parser.specs.Flagged.{params_of}
 use Rattle.c_parser.specs.Behind.{function_behind}
 use Rattle.c_parser.specs.Program.{Written, written_said}
 use Rattle.c_parser.proofs.Wholes.{Whole, whole_at, whole_refused}
-use Rattle.c_parser.proofs.Vars.{is_base, base_is, base_kind, base_single, value_ends, more_head, more_least, listed_vars, is_more_var}
+use Rattle.c_parser.proofs.Vars.{is_base, base_is, base_kind, base_single, value_ends, more_head, more_least, listed_vars, is_more_var, no_vars}
+use Rattle.c_parser.proofs.Stmts.{block_quiet, vars_quiet, declared_head}
 use Rattle.c_parser.proofs.Sequences.{seq_assoc}
 use Rattle.c_parser.proofs.Functions.{body_parts}
 
@@ -51,17 +51,17 @@ open_fails : (a : Kind) → is_open a ≡ true → is_not_open a ≡ false
 open_fails (Some k.OpenParen) e = refl
 open_fails _ e = absurd (cc)
 
-declared_head : (v : Option Expr) (vs : List Var) → Headed is_not_open (value_more (v, vs))
-declared_head None [] = (Some k.Semicolon, ([], refl, refl))
-declared_head None (x ∷ xs) = (Some k.Comma, ((listed_vars (x, xs)).kinds, refl, refl))
-declared_head (Some e) vs = (Some k.Assign, ((expr_said e).kinds ++ (more_vars vs).kinds, refl, refl))
+var_head : (v : Option Expr) (vs : List Var) → Headed is_not_open (value_more (v, vs))
+var_head None [] = (Some k.Semicolon, ([], refl, refl))
+var_head None (x ∷ xs) = (Some k.Comma, ((listed_vars (x, xs)).kinds, refl, refl))
+var_head (Some e) vs = (Some k.Assign, ((expr_said e).kinds ++ (more_vars vs).kinds, refl, refl))
 
 abbrev function_tail : Bool × FunctionRest → List Kind
 function_tail f = (seq params_of body_parts ((f.0, f.1.params), (tt, f.1.block))).kinds
 
 function_turned : (t : Behind) (r : List Kind) (a : Kind) (more : List Kind) → (behind_said t).kinds ++ r ≡ a ∷ more → is_open a ≡ true → (x : Bool × FunctionRest) × (t ≡ as_function x)
 function_turned (inl f) r a more e h = (f, refl)
-function_turned (inr d) r a more e h = absurd (not_headed is_open is_not_open (value_more d) (declared_head d.0 d.1) open_fails r a more e h)
+function_turned (inr d) r a more e h = absurd (not_headed is_open is_not_open (value_more d) (var_head d.0 d.1) open_fails r a more e h)
 
 function_turn : TurnIf function_behind behind_said as_function is_open
 function_turn = record { same = λ x. refl; turn = λ t r a more e h z. function_turned t r a more e h; begins = λ x. (Some k.OpenParen, (function_tail x, refl, refl)) }
@@ -71,7 +71,7 @@ declared_turned (inl f) r a more e h = absurd (not_first is_not_open (Some k.Ope
 declared_turned (inr d) r a more e h = (d, refl)
 
 declared_turn : TurnIf value_more behind_said as_declared is_not_open
-declared_turn = record { same = λ x. refl; turn = λ t r a more e h z. declared_turned t r a more e h; begins = λ x. declared_head x.0 x.1 }
+declared_turn = record { same = λ x. refl; turn = λ t r a more e h z. declared_turned t r a more e h; begins = λ x. var_head x.0 x.1 }
 
 behind_least : Least behind_said
 behind_least = record { tree = inr (None, []); flat = refl; nearest = refl }
@@ -107,9 +107,6 @@ item_same p (inr d) = declared_grouped (base_said p.base) (stars p.stars) (named
 
 abbrev DeclaredFrom : Base → List Var → Type 0
 DeclaredFrom b vs = (x : Param × Behind) × ((false, item.Declared (record { base = b; vars = vs })) ≡ item_made x)
-
-no_vars : (b : Base) → (written_said (false, item.Declared (record { base = b; vars = [] }))).strays ≡ 0 → ⊥
-no_vars b e = let n = base_single.nearest b in omega arith
 
 declared_from : (b : Base) (vs : List Var) → (written_said (false, item.Declared (record { base = b; vars = vs }))).strays ≡ 0 → DeclaredFrom b vs
 declared_from b [] e = absurd (no_vars b e)
@@ -159,30 +156,19 @@ pub item_vars_refused : (s : Source) (at middle after room token : ℕ) (why : W
 item_vars_refused s at middle after room token why p v other r t u = declared_refused s at middle room token why p other r (second_refused_at value_said more_vars value_more value_joined s middle after room v token why t u)
 
 -- ---- what an item says
-block_quiet : (xs : List Stmt) (a : Kind) → (block_of xs).goes_on a ≡ false
-block_quiet [] a = refl
-block_quiet (x ∷ xs) a = block_quiet xs a
-
-vars_quiet : (vs : List Var) (a : Kind) → (more_vars vs).goes_on a ≡ false
-vars_quiet [] a = refl
-vars_quiet (v ∷ vs) a = vars_quiet vs a
-
-declared_quiet : (flag : Bool) (b : Base) (vs : List Var) (a : Kind) → (written_said (flag, item.Declared (record { base = b; vars = vs }))).goes_on a ≡ false
-declared_quiet true b [] a = refl
-declared_quiet false b [] a = refl
-declared_quiet true b (v ∷ vs) a = vars_quiet vs a
-declared_quiet false b (v ∷ vs) a = vars_quiet vs a
-
 -- an item goes on with nothing
 pub item_quiet : (t : Written) (a : Kind) → (written_said t).goes_on a ≡ false
-item_quiet (flag, item.Function f) a = block_quiet f.block a
-item_quiet (flag, item.Declared d) a = declared_quiet flag d.base d.vars a
+item_quiet (flag, item.Function f) a = block_quiet (map stmt_said f.block) a
+item_quiet (true, item.Declared d) a = vars_quiet d.vars a
+item_quiet (false, item.Declared d) a = vars_quiet d.vars a
 
-base_headed : (b : Base) (s t : Said) → t.kinds ≡ (base_said b ⨾ s).kinds → Headed is_base t
-base_headed b s t is = (Some (base_kind b), (s.kinds, is ∙ ap (λ w. w ++ s.kinds) (base_single.kinds_is b), base_is b))
+function_head : (flag : Bool) (f : Function) → Headed is_base (written_said (flag, item.Function f))
+function_head flag f =
+    let rest = stars f.stars ⨾ (named f.name ⨾ function_behind (flag, record { params = f.params; block = f.block })) in
+    (Some (base_kind f.base), (rest.kinds, ap (λ w. w ++ rest.kinds) (base_single.kinds_is f.base), base_is f.base))
 
 -- an item begins with a base type
 pub item_head : (t : Written) → Headed is_base (written_said t)
-item_head (flag, item.Function f) = base_headed f.base (stars f.stars ⨾ (named f.name ⨾ function_behind (flag, record { params = f.params; block = f.block }))) (written_said (flag, item.Function f)) refl
-item_head (true, item.Declared d) = base_headed d.base (vars_said d.vars) (written_said (true, item.Declared d)) refl
-item_head (false, item.Declared d) = base_headed d.base (vars_said d.vars) (written_said (false, item.Declared d)) refl
+item_head (flag, item.Function f) = function_head flag f
+item_head (true, item.Declared d) = declared_head d
+item_head (false, item.Declared d) = declared_head d

@@ -14,8 +14,9 @@ use Rattle.c_tree.specs.Reading.{ReadsAt, RefusesAt}
 use Rattle.c_tree.proofs.Parts.{tok, seq, seq_joined, Turn, TurnIf, Least, Joined}
 use Rattle.c_tree.proofs.Places.{some_name, tok_at, named_at, named_refused_at, joined_at, first_refused_at, second_refused_at, turn_at, turn_if_at, turn_if_refused_at}
 use Rattle.c_tree.proofs.Choices.{Headed, not_first, unheaded_at, headed_parted, quiet_parted, whole_refused_at, behind_single_at, behind_single_refused_at, behind_tok_at, behind_tok_refused_at}
+use Rattle.c_expressions.proofs.Arguments.{is_close}
 use Rattle.c_parser.specs.Bases.{base_of}
-use Rattle.c_parser.proofs.Vars.{is_base, base_kind, base_is, base_single, base_at, is_name, name_no_star}
+use Rattle.c_parser.proofs.Vars.{is_base, base_kind, base_is, base_single, base_at, is_name, name_no_star, is_comma}
 
 -- ---- a parameter
 abbrev pub starred_name : ℕ × Name → Said
@@ -74,14 +75,6 @@ abbrev pub is_more_param : Kind → Bool
 is_more_param (Some k.CloseParen) = true
 is_more_param (Some k.Comma) = true
 is_more_param _ = false
-
-abbrev pub is_close : Kind → Bool
-is_close (Some k.CloseParen) = true
-is_close _ = false
-
-abbrev pub is_comma : Kind → Bool
-is_comma (Some k.Comma) = true
-is_comma _ = false
 
 more_head : (xs : List Param) → Headed is_more_param (more_params xs)
 more_head [] = (Some k.CloseParen, ([], refl, refl))

@@ -12,11 +12,12 @@ use Rattle.c_tree.specs.Reading.{Refuses, ReadsAt, RefusesAt, from}
 use Rattle.c_tree.proofs.Parts.{tok, seq, Turn, TurnIf, Least}
 use Rattle.c_tree.proofs.Places.{from_some, from_more, some_name, tok_at, joined_at, first_refused_at, second_refused_at, turn_at, turn_if_at, word_joined}
 use Rattle.c_tree.proofs.Choices.{not_first, not_headed, headed_longer}
+use Rattle.c_expressions.proofs.Arguments.{is_close}
 use Rattle.c_parser.specs.Flagged.{SaysVoid, params_of}
 use Rattle.c_parser.proofs.Vars.{is_base, base_kind, base_single}
 use Rattle.c_parser.proofs.Ahead.{Ahead, ahead_at, ahead_refused}
 use Rattle.c_parser.proofs.Flags.{counts_within}
-use Rattle.c_parser.proofs.ParamForms.{param_of, param_head, listed_params, listed_joined, is_close}
+use Rattle.c_parser.proofs.ParamForms.{param_of, param_head, listed_params, listed_joined}
 
 -- ---- what begins with a parameter
 -- the first token of listed parameters, and what is behind it

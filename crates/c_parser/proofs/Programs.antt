@@ -1,6 +1,7 @@
 -- A program, item by item, and what a refusal says of whole programs.
 use Rattle.std.proofs.Common.{◌≡◌, ◌∙◌, ◌⊎◌, inl, inr, refl, sym, ap, subst, ℕ, ◌+◌, ◌≤◌, Bool, true, false, List, [], ◌∷◌, ◌++◌, length, take, append_assoc, append-nil, length-append, Some, None, arith}
 use Rattle.std.specs.Prelude.{◌<◌, is_some, Result, Ok, Err, IsErrAnd, IfErr}
+use Rattle.std.proofs.Math.Seq.{take-append_seam, take-append-add}
 use Rattle.std.specs.Option.{option_map}
 use Rattle.std.proofs.lemmas.Option.{slice_get_cases}
 use Rattle.std.proofs.lemmas.List.{drop_all, append_cancel_right, map-append}
@@ -135,16 +136,6 @@ handed_up s room at items so_far inside e a (Ok x) is = absurd is
 handed_up s room at items so_far inside e a (Err x) is = subst (λ x. AnswersProgram s room (Err x)) (sym is) (item_fault s room at items so_far inside e a)
 
 -- ---- whole programs
-take_front : (front rest : List Kind) → take (length front) (front ++ rest) ≡ front
-take_front [] rest = refl
-take_front (x ∷ front) rest = ap (λ w. x ∷ w) (take_front front rest)
-
-take_bad : (front : List Kind) (bad : Kind) (rest : List Kind) → take (length front + 1) (front ++ bad ∷ rest) ≡ front ++ bad ∷ []
-take_bad front bad rest =
-    ap (λ n. take n (front ++ bad ∷ rest)) (sym (length-append front (bad ∷ [])))
-    ∙ ap (take (length (front ++ bad ∷ []))) (sym (append_assoc front (bad ∷ []) rest))
-    ∙ take_front (front ++ bad ∷ []) rest
-
 begins_program : (room : ℕ) (front : List Kind) → Begins program_said room front → BeginsProgram room front
 begins_program room front b = record {
   written = b.tree;
@@ -182,8 +173,8 @@ first_wrong s token why r =
     let kinds = kinds_of s.tokens in
     let stands : ended kinds ≡ r.front ++ r.bad ∷ q.rest = q.stands in
     let is : token ≡ length r.front = (let place = r.place in omega arith) in
-    let before : take token (ended kinds) ≡ r.front = ap (λ n. take n (ended kinds)) is ∙ ap (take (length r.front)) stands ∙ take_front r.front (r.bad ∷ q.rest) in
-    let here : take (token + 1) (ended kinds) ≡ r.front ++ r.bad ∷ [] = ap (λ n. take (n + 1) (ended kinds)) is ∙ ap (take (length r.front + 1)) stands ∙ take_bad r.front r.bad q.rest in
+    let before : take token (ended kinds) ≡ r.front = ap (λ n. take n (ended kinds)) is ∙ ap (take (length r.front)) stands ∙ take-append_seam r.front (r.bad ∷ q.rest) in
+    let here : take (token + 1) (ended kinds) ≡ r.front ++ r.bad ∷ [] = ap (λ n. take (n + 1) (ended kinds)) is ∙ ap (take (length r.front + 1)) stands ∙ take-append-add r.front (r.bad ∷ q.rest) 1 in
     record {
       inside = (let n = ap length stands in let a = length-append kinds (None ∷ []) in let b = length-append r.front (r.bad ∷ q.rest) in omega arith);
       before = subst (BeginsProgram 200) (sym before) (begins_program 200 r.front q.some);

@@ -79,7 +79,7 @@ first_of (s.If condition body other) a = is_if a
 first_of (s.While condition body) a = is_while a
 first_of (s.Return t value) a = is_return a
 
-declared_head : (d : Declaration) → Headed is_base (declaration_said d)
+pub declared_head : (d : Declaration) → Headed is_base (declaration_said d)
 declared_head d = (Some (base_kind d.base), ((vars_said d.vars).kinds, ap (λ w. w ++ (vars_said d.vars).kinds) (base_single.kinds_is d.base), base_is d.base))
 
 pub layer_head : (x : StmtLayer) → Headed (first_of x) (stmt_layer x)
@@ -169,7 +169,7 @@ pub stmt_head : (t : Stmt) → Headed is_stmt (stmt_said t)
 stmt_head = stmt_by_layer (λ s t. Headed is_stmt s) (λ x. let h = layer_head x in (h.0, (h.1.0, h.1.1, first_stmt x h.0 h.1.2)))
 
 -- ---- what a statement goes on with at most: `else`
-block_quiet : (xs : List Said) (a : Kind) → (block_said xs).goes_on a ≡ false
+pub block_quiet : (xs : List Said) (a : Kind) → (block_said xs).goes_on a ≡ false
 block_quiet [] a = refl
 block_quiet (x ∷ xs) a = block_quiet xs a
 
@@ -177,7 +177,7 @@ more_quiet : (vs : List Var) (a : Kind) → (more_vars vs).goes_on a ≡ false
 more_quiet [] a = refl
 more_quiet (v ∷ vs) a = more_quiet vs a
 
-vars_quiet : (vs : List Var) (a : Kind) → (vars_said vs).goes_on a ≡ false
+pub vars_quiet : (vs : List Var) (a : Kind) → (vars_said vs).goes_on a ≡ false
 vars_quiet [] a = refl
 vars_quiet (v ∷ vs) a = more_quiet vs a
 

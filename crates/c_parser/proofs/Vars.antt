@@ -353,7 +353,7 @@ declared_parts = seq base_said listed_vars
 abbrev pub declared_of : Base × (Var × List Var) → Declaration
 declared_of x = record { base = x.0; vars = x.1.0 ∷ x.1.1 }
 
-no_vars : (b : Base) → (declaration_said (record { base = b; vars = [] })).strays ≡ 0 → ⊥
+pub no_vars : (b : Base) → (declaration_said (record { base = b; vars = [] })).strays ≡ 0 → ⊥
 no_vars b e = let n = base_nearest b in omega arith
 
 declared_turned : (b : Base) (vs : List Var) → (declaration_said (record { base = b; vars = vs })).strays ≡ 0 → (x : Base × (Var × List Var)) × (record { base = b; vars = vs } ≡ declared_of x)

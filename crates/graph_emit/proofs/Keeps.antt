@@ -346,7 +346,7 @@ declare_keeps known base name = record {
   leaves = λ s good g a t e.
       let w = fresh name.tok form.Variable name.bytes ⟫ bind name.bytes in
       let k : Keeps known base (IsOf form.Variable) w = keeps_then known base (IsOf form.Variable) (IsOf form.Variable) (fresh name.tok form.Variable name.bytes) (bind name.bytes)
-              (fresh_keeps known base name.tok form.Variable name.bytes refl) (λ ms v g h. bind_keeps known ms name.bytes v h) in
+      (fresh_keeps known base name.tok form.Variable name.bytes refl) (λ ms v g h. bind_keeps known ms name.bytes v h) in
       k.leaves s good g a t (chosen (is_some (bound_to name.bytes s.inner)) _ (w s) t a e);
 }
 
@@ -365,16 +365,16 @@ scoped_keeps {A} known base Q names w all k = record {
       let r = closed_of s (w inside) t a e in
       let u = r.0 in
       let opened : Good known inside = record {
-            kept = good.kept;
-            inner = variables_grown base s.vertices names g all;
-            outer = All-append (IsVariable s.vertices) s.inner s.outer good.inner good.outer;
-            targets = good.targets;
-          } in
+        kept = good.kept;
+        inner = variables_grown base s.vertices names g all;
+        outer = All-append (IsVariable s.vertices) s.inner s.outer good.inner good.outer;
+        targets = good.targets;
+      } in
       let l = k.leaves inside opened g a u r.1.0 in
       let left : Leaves known Q s a (record { vertices = u.vertices; edges = u.edges; inner = s.inner; outer = s.outer }) = record {
-            good = record { kept = l.good.kept; inner = variables_grown s.vertices u.vertices s.inner l.grows good.inner; outer = variables_grown s.vertices u.vertices s.outer l.grows good.outer; targets = l.good.targets };
-            grows = l.grows;
-            value = l.value;
-          } in
+        good = record { kept = l.good.kept; inner = variables_grown s.vertices u.vertices s.inner l.grows good.inner; outer = variables_grown s.vertices u.vertices s.outer l.grows good.outer; targets = l.good.targets };
+        grows = l.grows;
+        value = l.value;
+      } in
       subst (λ t. Leaves known Q s a t) (sym r.1.1) left;
 }

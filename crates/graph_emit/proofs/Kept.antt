@@ -192,12 +192,12 @@ module _ (ms : List Made) (es fs : List EmitEdge) (x : Made) (kept : Kept ms es)
 pub kept_plain : (ms : List Made) (es : List EmitEdge) (x : Made) → Kept ms es → length ms < MOST_VERTICES → made_for x.form ≡ None → Kept (ms ++ x ∷ []) es
 kept_plain ms es x k room plain =
     let fits : Fits ms x [] = record {
-          below = λ base e. absurd (let f : None ≡ Some base = sym plain ∙ e in cc);
-          deref = λ base e. absurd (let f : None ≡ Some base = sym plain ∙ ap made_for e in cc);
-          address = λ base e. absurd (let f : None ≡ Some base = sym plain ∙ ap made_for e in cc);
-          inside = All-nil (IsEdgeBelow (length (ms ++ x ∷ [])));
-          inverses = λ s d m h. absurd (let far = h.1 in omega arith);
-        } in
+      below = λ base e. absurd (let f : None ≡ Some base = sym plain ∙ e in cc);
+      deref = λ base e. absurd (let f : None ≡ Some base = sym plain ∙ ap made_for e in cc);
+      address = λ base e. absurd (let f : None ≡ Some base = sym plain ∙ ap made_for e in cc);
+      inside = All-nil (IsEdgeBelow (length (ms ++ x ∷ [])));
+      inverses = λ s d m h. absurd (let far = h.1 in omega arith);
+    } in
     subst (λ fs. Kept (ms ++ x ∷ []) fs) (append-nil es) (kept_grown ms es [] x k room fits)
 
 abbrev pub deref : ℕ → ℕ → Made
@@ -212,16 +212,16 @@ kept_deref ms es v token k room at none =
     let fs : List EmitEdge = both v label.D (length ms) in
     let long : length (ms ++ x ∷ []) ≡ length ms + 1 = length-append ms (x ∷ []) in
     let fits : Fits ms x fs = record {
-          below = λ base e. let same : v ≡ base = cc in omega arith;
-          deref = λ base e.
-              let same : v ≡ base = cc in (
-                subst (λ w. place_of (is_deref_of w) ms ≡ None) same none,
-                subst (λ w. Contains fs (edge w label.D (length ms))) same (first_in (edge v label.D (length ms)) (edge (length ms) label.MinusD v)),
-              );
-          address = λ base e. absurd (cc);
-          inside = both_inside (length (ms ++ x ∷ [])) v (length ms) label.D (omega arith) (omega arith);
-          inverses = both_inverses v (length ms) label.D;
-        } in
+      below = λ base e. let same : v ≡ base = cc in omega arith;
+      deref = λ base e.
+          let same : v ≡ base = cc in (
+            subst (λ w. place_of (is_deref_of w) ms ≡ None) same none,
+            subst (λ w. Contains fs (edge w label.D (length ms))) same (first_in (edge v label.D (length ms)) (edge (length ms) label.MinusD v)),
+          );
+      address = λ base e. absurd (cc);
+      inside = both_inside (length (ms ++ x ∷ [])) v (length ms) label.D (omega arith) (omega arith);
+      inverses = both_inverses v (length ms) label.D;
+    } in
     kept_grown ms es fs x k room fits
 
 pub kept_address : (ms : List Made) (es : List EmitEdge) (v token : ℕ) → Kept ms es → length ms < MOST_VERTICES → Has ms v form.Variable → place_of (is_address_of v) ms ≡ None → Kept (ms ++ address v token ∷ []) (es ++ both (length ms) label.D v)
@@ -231,15 +231,17 @@ kept_address ms es v token k room variable none =
     let long : length (ms ++ x ∷ []) ≡ length ms + 1 = length-append ms (x ∷ []) in
     let at : v < length ms = has_within ms v form.Variable variable in
     let fits : Fits ms x fs = record {
-          below = λ base e. let same : v ≡ base = cc in omega arith;
-          deref = λ base e. absurd (cc);
-          address = λ base e.
-              let same : v ≡ base = cc in (
-                subst (λ w. place_of (is_address_of w) ms ≡ None) same none,
-                (subst (λ w. Contains fs (edge (length ms) label.D w)) same (first_in (edge (length ms) label.D v) (edge v label.MinusD (length ms))),
-                subst (λ w. Has ms w form.Variable) same variable),
-              );
-          inside = both_inside (length (ms ++ x ∷ [])) (length ms) v label.D (omega arith) (omega arith);
-          inverses = both_inverses (length ms) v label.D;
-        } in
+      below = λ base e. let same : v ≡ base = cc in omega arith;
+      deref = λ base e. absurd (cc);
+      address = λ base e.
+          let same : v ≡ base = cc in (
+            subst (λ w. place_of (is_address_of w) ms ≡ None) same none,
+            (
+              subst (λ w. Contains fs (edge (length ms) label.D w)) same (first_in (edge (length ms) label.D v) (edge v label.MinusD (length ms))),
+              subst (λ w. Has ms w form.Variable) same variable,
+            ),
+          );
+      inside = both_inside (length (ms ++ x ∷ [])) (length ms) v label.D (omega arith) (omega arith);
+      inverses = both_inverses (length ms) v label.D;
+    } in
     kept_grown ms es fs x k room fits

@@ -10,3 +10,7 @@ pub mod Trees
 pub mod Programs
 pub mod Loops
 pub mod Calls
+pub mod Numbered
+pub mod Firsts
+pub mod Bodies
+pub mod Whole

@@ -9,4 +9,4 @@ rest_at xs i x h is = drop_more xs i x h ∙ ap (λ y. y ∷ drop (i + 1) xs) (s
 
 -- none is left
 pub rest_end : {X : Type 0} (xs : List X) (i : ℕ) → length xs ≤ i → drop i xs ≡ []
-rest_end xs i h = drop_of_length-le h
+rest_end xs i h = drop_of_length-le xs h

@@ -81,7 +81,7 @@ module _ (known : List Known) (set : Setting) (goes : (name : Name) → Always k
     if_keeps condition body other k base has =
         subst (Keeps known base Nothing) (sym (stmt_if set gives condition body.0 other))
         (keeps_then known base HasVertex Nothing (expr_walk set condition) (λ _. stmt_walk set gives body.0 ⟫ λ _. else_walk set gives other) (expr_keeps known set goes condition base) (λ ms v g q.
-            keeps_then known ms Nothing Nothing (stmt_walk set gives body.0) (λ _. else_walk set gives other) (body.1 ms (given_later base ms g has)) (λ ns u h q. k ns (given_later base ns (grows_then base ms ns g h) has))))
+        keeps_then known ms Nothing Nothing (stmt_walk set gives body.0) (λ _. else_walk set gives other) (body.1 ms (given_later base ms g has)) (λ ns u h q. k ns (given_later base ns (grows_then base ms ns g h) has))))
 
     stmt_step : (y : Stmt-F StmtWith) → StmtFact (roll-Stmt (map-Stmt StmtWith Stmt (λ e. e.0) y))
     stmt_step (s.Declared d) base has =
@@ -89,8 +89,8 @@ module _ (known : List Known) (set : Setting) (goes : (name : Name) → Always k
     stmt_step (s.Assign p value) base has =
         subst (Keeps known base Nothing) (sym (ap (stmt_walk set gives) (stmt.rolls-Assign p value) ∙ stmt_assign set gives p value))
         (keeps_then known base IsPlace Nothing (place_walk set p) (λ t. expr_walk set value ⟫ λ v. flow set.kind v t) (place_keeps known set goes p base) (λ ms t g q.
-            let at : t < length ms = place_inside ms t q in
-            keeps_then known ms HasVertex Nothing (expr_walk set value) (λ v. flow set.kind v t) (expr_keeps known set goes value ms) (λ ns v h is. flow_keeps known ns set.kind v t is (omega (arith, h.longer)))))
+        let at : t < length ms = place_inside ms t q in
+        keeps_then known ms HasVertex Nothing (expr_walk set value) (λ v. flow set.kind v t) (expr_keeps known set goes value ms) (λ ns v h is. flow_keeps known ns set.kind v t is (omega (arith, h.longer)))))
     stmt_step (s.Call c) base has =
         subst (Keeps known base Nothing) (sym (ap (stmt_walk set gives) (stmt.rolls-Call c) ∙ stmt_call set gives c))
         (keeps_then known base HasGiven Nothing (call_walk set c).walk (λ _. done tt) (call_keeps known set goes c base) (λ ms t g q. keeps_done known ms Nothing tt (λ ns h. tt)))
@@ -185,10 +185,10 @@ return_made_keeps f base =
 target_keeps : (f : Function) → Always [] Callable (target_made f)
 target_keeps f base = keeps_then [] base AllVariables Callable (params_made [] f.params) (λ params. return_made f ⟫ λ gives. done (let t : Target = record { params = params; gives = gives } in t)) (params_keep [] f.params base (All-nil (IsVariable base))) (λ ms params g vars.
     keeps_then [] ms HasGiven Callable (return_made f) (λ gives. done (let t : Target = record { params = params; gives = gives } in t)) (return_made_keeps f ms) (λ ns gives h has.
-        keeps_done [] ns Callable (record { params = params; gives = gives }) (λ os i. record {
-          params = variables_grown ms os params (grows_then ms ns os h i) vars;
-          gives = λ r e. let at : r < length ns = has r e in omega (arith, i.longer);
-        })))
+    keeps_done [] ns Callable (record { params = params; gives = gives }) (λ os i. record {
+      params = variables_grown ms os params (grows_then ms ns os h i) vars;
+      gives = λ r e. let at : r < length ns = has r e in omega (arith, i.longer);
+    })))
 
 function_keeps : (before : List Known) (f : Function) (base : List Made) → AllCallable base before → Keeps [] base AllCallable (function_made before f)
 function_keeps before f base all =

@@ -73,7 +73,7 @@ pub stops_by : {R S A B : Type 0} {see : S → B} {seen : R → A} {whole : Walk
 stops_by {w = w} {e = e} next r g h is = stops_on w next e r g (refused h) is
 
 -- the last step
-refuses_on : {A : Type 0} {whole rest : Walk A} {before now : State} {e : EmitFault} → GoesOn whole before rest now → Refuses rest now e → Refuses whole before e
+pub refuses_on : {A : Type 0} {whole rest : Walk A} {before now : State} {e : EmitFault} → GoesOn whole before rest now → Refuses rest now e → Refuses whole before e
 refuses_on g (inl q) = inl q
 refuses_on g (inr q) = inr (g.same ∙ q)
 

@@ -84,9 +84,9 @@ module _ (known : List Known) where
       let at : r < length base = has r refl in
       keeps_then known base (IsOf form.Call) HasGiven (fresh name.tok form.Call name.bytes) (λ t. join r label.A t ⟫ λ _. done (Some t)) (fresh_keeps known base name.tok form.Call name.bytes refl)
       (λ ms t g q.
-          let new : t < length ms = has_within ms t form.Call q in
-          keeps_then known ms Nothing HasGiven (join r label.A t) (λ _. done (Some t)) (join_keeps known ms r label.A t (omega (arith, g.longer)) new)
-          (λ ns u h v. keeps_done known ns HasGiven (Some t) (λ os i x e. let same : t ≡ x = cc in omega (arith, h.longer, i.longer))))
+      let new : t < length ms = has_within ms t form.Call q in
+      keeps_then known ms Nothing HasGiven (join r label.A t) (λ _. done (Some t)) (join_keeps known ms r label.A t (omega (arith, g.longer)) new)
+      (λ ns u h v. keeps_done known ns HasGiven (Some t) (λ os i x e. let same : t ≡ x = cc in omega (arith, h.longer, i.longer))))
 
   goes_to_keeps : (set : Setting) (name : Name) (args : List (Walk Value)) (target : Target) (base : List Made) → AllWalks args → Callable base target → Keeps known base HasGiven (goes_to set name args target)
   goes_to_keeps set name args target base all c =
@@ -170,9 +170,9 @@ module _ (known : List Known) (set : Setting) (goes : (name : Name) → Always k
   call_step (o.Malloc tok size) base =
       subst (λ c. Keeps known base HasGiven c.walk) (sym (ap (call_walk set) (call.rolls-Malloc tok size.0) ∙ call_malloc set tok size.0))
       (keeps_then known base HasVertex HasGiven (expr_walk set size.0) (λ _. fresh tok form.Malloc [] ⟫ λ t. done (Some t)) (size.1 base) (λ ms v g q.
-          keeps_then known ms (IsOf form.Malloc) HasGiven (fresh tok form.Malloc []) (λ t. done (Some t)) (fresh_keeps known ms tok form.Malloc [] refl) (λ ns t h is.
-              let at : t < length ns = has_within ns t form.Malloc is in
-              keeps_done known ns HasGiven (Some t) (λ os i x e. let same : t ≡ x = cc in omega (arith, i.longer)))))
+      keeps_then known ms (IsOf form.Malloc) HasGiven (fresh tok form.Malloc []) (λ t. done (Some t)) (fresh_keeps known ms tok form.Malloc [] refl) (λ ns t h is.
+      let at : t < length ns = has_within ns t form.Malloc is in
+      keeps_done known ns HasGiven (Some t) (λ os i x e. let same : t ≡ x = cc in omega (arith, i.longer)))))
 
   place_step : (y : Place-F CallWith PlaceWith PointerWith UnaryWith AddedWith ComparedWith ExprWith SumWith) → PlaceFact (roll-Place (map-Place CallWith PlaceWith PointerWith UnaryWith AddedWith ComparedWith ExprWith SumWith Call Place Pointer Unary Added Compared Expr Sum (λ e. e.0) (λ e. e.0) (λ e. e.0) (λ e. e.0) (λ e. e.0) (λ e. e.0) (λ e. e.0) (λ e. e.0) y))
   place_step (o.Place::Name name) base =
@@ -189,7 +189,7 @@ module _ (known : List Known) (set : Setting) (goes : (name : Name) → Always k
   pointer_step (o.Pointer::Star tok inner) base =
       subst (Keeps known base Inside) (sym (ap (pointer_walk set) (pointer.rolls-Star tok inner.0) ∙ pointer_star set tok inner.0))
       (keeps_then known base Inside Inside (pointer_walk set inner.0) (pointed_to tok) (inner.1 base) (λ ms v g q.
-          keeps_weaker known ms IsPlace Inside (pointed_to tok v) (pointed_keeps known ms tok v q) (λ ns w h is. place_inside ns w is)))
+      keeps_weaker known ms IsPlace Inside (pointed_to tok v) (pointed_keeps known ms tok v q) (λ ns w h is. place_inside ns w is)))
   pointer_step (o.Pointer::Call c) base =
       subst (Keeps known base Inside) (sym (ap (pointer_walk set) (pointer.rolls-Call c.0) ∙ pointer_call set c.0))
       (value_keeps known (call_walk set c.0) c.1 base)
@@ -204,7 +204,7 @@ module _ (known : List Known) (set : Setting) (goes : (name : Name) → Always k
   unary_step (o.Address tok p) base =
       subst (Keeps known base HasVertex) (sym (ap (unary_walk set) (unary.rolls-Address tok p.0) ∙ unary_address set tok p.0))
       (keeps_then known base IsPlace HasVertex (place_walk set p.0) (λ v. addressed tok v ⟫ λ t. done (plain t)) (p.1 base) (λ ms v g q.
-          plain_keeps known ms Inside (addressed tok v) (λ ns t h. h) (addressed_keeps known ms tok v q)))
+      plain_keeps known ms Inside (addressed tok v) (λ ns t h. h) (addressed_keeps known ms tok v q)))
   unary_step (o.Unary::Call c) base =
       subst (Keeps known base HasVertex) (sym (ap (unary_walk set) (unary.rolls-Call c.0) ∙ unary_call set c.0))
       (plain_keeps known base Inside (value_of (call_walk set c.0)) (λ ns t h. h) (value_keeps known (call_walk set c.0) c.1 base))
@@ -214,8 +214,8 @@ module _ (known : List Known) (set : Setting) (goes : (name : Name) → Always k
   unary_step (o.Null tok) base =
       subst (Keeps known base HasVertex) (sym (ap (unary_walk set) (unary.rolls-Null tok) ∙ unary_null set tok))
       (keeps_then known base (IsOf form.Null) HasVertex (fresh tok form.Null []) (λ t. done (record { vertex = t; is_null = true })) (fresh_keeps known base tok form.Null [] refl) (λ ms t g q.
-          let at : t < length ms = has_within ms t form.Null q in
-          keeps_done known ms HasVertex (record { vertex = t; is_null = true }) (λ ns h. omega (arith, h.longer))))
+      let at : t < length ms = has_within ms t form.Null q in
+      keeps_done known ms HasVertex (record { vertex = t; is_null = true }) (λ ns h. omega (arith, h.longer))))
   unary_step (o.Unary::Paren e) base =
       subst (Keeps known base HasVertex) (sym (ap (unary_walk set) (unary.rolls-Paren e.0) ∙ unary_paren set e.0)) (e.1 base)
 

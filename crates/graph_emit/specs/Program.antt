@@ -34,7 +34,7 @@ abbrev pub param_made : List Bound → Param → Walk (List Bound)
 param_made before p =
     if is_some (bound_to p.name.bytes before) then refuse p.name.tok input.Repeated
     else (
-      fresh p.name.tok form.Variable p.name.bytes ⟫ λ t. done (record { name = p.name.bytes; vertex = t } ∷ before)
+    fresh p.name.tok form.Variable p.name.bytes ⟫ λ t. done (record { name = p.name.bytes; vertex = t } ∷ before)
     )
 
 -- the parameters of a function, behind those before

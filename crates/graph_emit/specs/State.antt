@@ -25,8 +25,8 @@ pub record Made : Type 0 where
   pub name : List ℕ
   pub token : ℕ
 
--- the graph so far, and the visible names: those of the innermost scope, and those of the scopes around it, the last
--- one first
+-- the graph so far, and the visible names: those of the innermost scope, and those of the scopes around it, the
+-- last one first
 pub record State : Type 0 where
   pub vertices : List Made
   pub edges : List EmitEdge
@@ -70,12 +70,15 @@ fresh tok f name s =
 
 -- an edge and its inverse
 abbrev pub join : ℕ → EmitLabel → ℕ → Walk (Unit {0})
-join src l dst s = Ok (record {
-  vertices = s.vertices;
-  edges = s.edges ++ (edge src l dst ∷ edge dst (inverse l) src ∷ []);
-  inner = s.inner;
-  outer = s.outer;
-}, tt)
+join src l dst s = Ok (
+  record {
+    vertices = s.vertices;
+    edges = s.edges ++ (edge src l dst ∷ edge dst (inverse l) src ∷ []);
+    inner = s.inner;
+    outer = s.outer;
+  },
+  tt,
+)
 
 abbrev pub form_at : List Made → ℕ → Option VertexForm
 form_at vertices v = option_map (λ (m : Made). m.form) (slice_get vertices v)
@@ -148,12 +151,15 @@ abbrev pub variable : Name → Walk ℕ
 variable name s = found_or (bound_to name.bytes (s.inner ++ s.outer)) name s
 
 abbrev pub bind : List ℕ → ℕ → Walk ℕ
-bind name v s = Ok (record {
-  vertices = s.vertices;
-  edges = s.edges;
-  inner = record { name = name; vertex = v } ∷ s.inner;
-  outer = s.outer;
-}, v)
+bind name v s = Ok (
+  record {
+    vertices = s.vertices;
+    edges = s.edges;
+    inner = record { name = name; vertex = v } ∷ s.inner;
+    outer = s.outer;
+  },
+  v,
+)
 
 -- a new variable, of a name that the innermost scope doesn't have yet
 abbrev pub declare : Name → Walk ℕ

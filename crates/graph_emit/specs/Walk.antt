@@ -110,7 +110,8 @@ abbrev pub added_step :
 added_step a = record { tok = a.tok; walk = a.unary }
 
 abbrev pub compared_step :
-    Compared-F CallWalk (Walk ℕ) (Walk ℕ) (Walk Value) OperandWalk OperandWalk (Walk Value) (Walk Value) → OperandWalk
+    Compared-F CallWalk (Walk ℕ) (Walk ℕ) (Walk Value) OperandWalk OperandWalk (Walk Value) (Walk Value)
+    → OperandWalk
 compared_step c = record { tok = c.tok; walk = c.sum }
 
 abbrev pub expr_step :
@@ -122,35 +123,43 @@ abbrev pub sum_step :
 sum_step x = x.first ⟫ λ value. operate_all value x.rest
 
 unfoldable pub call_walk : Setting → Call → CallWalk
-call_walk set = fold-Call CallWalk (Walk ℕ) (Walk ℕ) (Walk Value) OperandWalk OperandWalk (Walk Value) (Walk Value)
+call_walk set =
+    fold-Call CallWalk (Walk ℕ) (Walk ℕ) (Walk Value) OperandWalk OperandWalk (Walk Value) (Walk Value)
     (call_step set) place_step pointer_step unary_step added_step compared_step expr_step sum_step
 
 unfoldable pub place_walk : Setting → Place → Walk ℕ
-place_walk set = fold-Place CallWalk (Walk ℕ) (Walk ℕ) (Walk Value) OperandWalk OperandWalk (Walk Value) (Walk Value)
+place_walk set =
+    fold-Place CallWalk (Walk ℕ) (Walk ℕ) (Walk Value) OperandWalk OperandWalk (Walk Value) (Walk Value)
     (call_step set) place_step pointer_step unary_step added_step compared_step expr_step sum_step
 
 unfoldable pub pointer_walk : Setting → Pointer → Walk ℕ
-pointer_walk set = fold-Pointer CallWalk (Walk ℕ) (Walk ℕ) (Walk Value) OperandWalk OperandWalk (Walk Value) (Walk Value)
+pointer_walk set =
+    fold-Pointer CallWalk (Walk ℕ) (Walk ℕ) (Walk Value) OperandWalk OperandWalk (Walk Value) (Walk Value)
     (call_step set) place_step pointer_step unary_step added_step compared_step expr_step sum_step
 
 unfoldable pub unary_walk : Setting → Unary → Walk Value
-unary_walk set = fold-Unary CallWalk (Walk ℕ) (Walk ℕ) (Walk Value) OperandWalk OperandWalk (Walk Value) (Walk Value)
+unary_walk set =
+    fold-Unary CallWalk (Walk ℕ) (Walk ℕ) (Walk Value) OperandWalk OperandWalk (Walk Value) (Walk Value)
     (call_step set) place_step pointer_step unary_step added_step compared_step expr_step sum_step
 
 unfoldable pub added_walk : Setting → Added → OperandWalk
-added_walk set = fold-Added CallWalk (Walk ℕ) (Walk ℕ) (Walk Value) OperandWalk OperandWalk (Walk Value) (Walk Value)
+added_walk set =
+    fold-Added CallWalk (Walk ℕ) (Walk ℕ) (Walk Value) OperandWalk OperandWalk (Walk Value) (Walk Value)
     (call_step set) place_step pointer_step unary_step added_step compared_step expr_step sum_step
 
 unfoldable pub compared_walk : Setting → Compared → OperandWalk
-compared_walk set = fold-Compared CallWalk (Walk ℕ) (Walk ℕ) (Walk Value) OperandWalk OperandWalk (Walk Value) (Walk Value)
+compared_walk set =
+    fold-Compared CallWalk (Walk ℕ) (Walk ℕ) (Walk Value) OperandWalk OperandWalk (Walk Value) (Walk Value)
     (call_step set) place_step pointer_step unary_step added_step compared_step expr_step sum_step
 
 unfoldable pub expr_walk : Setting → Expr → Walk Value
-expr_walk set = fold-Expr CallWalk (Walk ℕ) (Walk ℕ) (Walk Value) OperandWalk OperandWalk (Walk Value) (Walk Value)
+expr_walk set =
+    fold-Expr CallWalk (Walk ℕ) (Walk ℕ) (Walk Value) OperandWalk OperandWalk (Walk Value) (Walk Value)
     (call_step set) place_step pointer_step unary_step added_step compared_step expr_step sum_step
 
 unfoldable pub sum_walk : Setting → Sum → Walk Value
-sum_walk set = fold-Sum CallWalk (Walk ℕ) (Walk ℕ) (Walk Value) OperandWalk OperandWalk (Walk Value) (Walk Value)
+sum_walk set =
+    fold-Sum CallWalk (Walk ℕ) (Walk ℕ) (Walk Value) OperandWalk OperandWalk (Walk Value) (Walk Value)
     (call_step set) place_step pointer_step unary_step added_step compared_step expr_step sum_step
 
 -- ---- declarations

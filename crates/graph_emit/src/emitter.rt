@@ -67,10 +67,10 @@ impl<'p> Model for Emitter<'p> {
     ghost Value = { State };
 
     ghost view = { λ e. record {
-        vertices = map made e.spots.items;
-        edges = e.edges.items;
-        inner = e.names.inner;
-        outer = e.names.outer
+      vertices = map made e.spots.items;
+      edges = e.edges.items;
+      inner = e.names.inner;
+      outer = e.names.outer;
     } };
 
     ghost invariant = { λ e. IsIndexed (map made e.spots.items) e.derefs e.addresses };
@@ -105,7 +105,12 @@ impl<'p> Emitter<'p> {
     }
 
     /// A new vertex that is no dereference and no address, for this token.
-    pub(crate) fn fresh(&mut self, tok: Tok, form: VertexForm, name: &'p [u8]) -> Result<u32, EmitFault>
+    pub(crate) fn fresh(
+        &mut self,
+        tok: Tok,
+        form: VertexForm,
+        name: &'p [u8],
+    ) -> Result<u32, EmitFault>
         requires { made_for form ≡ None }
         ensures { Answers (fresh_step tok form name.now) self.old result self.new }
     {
@@ -301,7 +306,8 @@ fn add_indexed<'p>(
     t: u32,
 ) -> Result<(), AllocError>
     ensures spots { OnOk result (spots.new.items ≡ spots.old.items ++ spot.entry ∷ []) }
-    ensures index { OnOk result ((q : ℕ) → at_number index.new q ≡ update nat_eq (at_number index.old) v (Some t) q) }
+    ensures index { OnOk result ((q : ℕ) → at_number index.new q
+        ≡ update nat_eq (at_number index.old) v (Some t) q) }
     ensures same_spots { OnErr result (spots.new.items ≡ spots.old.items) }
     ensures same_index { OnErr result ((q : ℕ) → at_number index.new q ≡ at_number index.old q) }
 {

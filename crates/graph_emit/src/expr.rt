@@ -22,7 +22,11 @@ pub(crate) struct Setting<'a, 'p> {
 }
 
 /// What a function gives flows to a new vertex.
-fn given<'p>(emitter: &mut Emitter<'p>, name: &'p Name, gives: Option<u32>) -> Result<Option<u32>, EmitFault>
+fn given<'p>(
+    emitter: &mut Emitter<'p>,
+    name: &'p Name,
+    gives: Option<u32>,
+) -> Result<Option<u32>, EmitFault>
     ensures { Answers (given_step name.now gives) emitter.old result emitter.new }
 {
     let Some(r) = gives else {
@@ -35,7 +39,12 @@ fn given<'p>(emitter: &mut Emitter<'p>, name: &'p Name, gives: Option<u32>) -> R
 
 /// An argument flows to its parameter.
 #[cycle(expr)]
-fn arg_flows<'p>(set: &Setting<'_, 'p>, emitter: &mut Emitter<'p>, arg: &'p Expr, t: u32) -> Result<(), EmitFault>
+fn arg_flows<'p>(
+    set: &Setting<'_, 'p>,
+    emitter: &mut Emitter<'p>,
+    arg: &'p Expr,
+    t: u32,
+) -> Result<(), EmitFault>
     ensures { Answers (arg_step set.now.kind (expr_walk (seen set.now) arg.now) t) emitter.old result emitter.new }
 {
     let value = walk_expr(set, emitter, arg)?;
@@ -107,7 +116,11 @@ fn call_tok(call: &Call) -> Tok
 
 /// The vertex of a call that is used as an expression.
 #[cycle(expr)]
-fn value_of_call<'p>(set: &Setting<'_, 'p>, emitter: &mut Emitter<'p>, call: &'p Call) -> Result<u32, EmitFault>
+fn value_of_call<'p>(
+    set: &Setting<'_, 'p>,
+    emitter: &mut Emitter<'p>,
+    call: &'p Call,
+) -> Result<u32, EmitFault>
     ensures { Answers (value_of (call_walk (seen set.now) call.now)) emitter.old result emitter.new }
 {
     match walk_call(set, emitter, call)? {
@@ -135,7 +148,11 @@ pub(crate) fn walk_place<'p>(
 }
 
 #[cycle(expr)]
-fn walk_pointer<'p>(set: &Setting<'_, 'p>, emitter: &mut Emitter<'p>, pointer: &'p Pointer) -> Result<u32, EmitFault>
+fn walk_pointer<'p>(
+    set: &Setting<'_, 'p>,
+    emitter: &mut Emitter<'p>,
+    pointer: &'p Pointer,
+) -> Result<u32, EmitFault>
     ensures { Answers (pointer_walk (seen set.now) pointer.now) emitter.old result emitter.new }
 {
     match pointer {
@@ -153,7 +170,11 @@ fn walk_pointer<'p>(set: &Setting<'_, 'p>, emitter: &mut Emitter<'p>, pointer: &
 }
 
 #[cycle(expr)]
-fn walk_unary<'p>(set: &Setting<'_, 'p>, emitter: &mut Emitter<'p>, unary: &'p Unary) -> Result<Value, EmitFault>
+fn walk_unary<'p>(
+    set: &Setting<'_, 'p>,
+    emitter: &mut Emitter<'p>,
+    unary: &'p Unary,
+) -> Result<Value, EmitFault>
     ensures { Answers (unary_walk (seen set.now) unary.now) emitter.old result emitter.new }
 {
     match unary {
@@ -187,7 +208,11 @@ fn walk_unary<'p>(set: &Setting<'_, 'p>, emitter: &mut Emitter<'p>, unary: &'p U
 
 /// Operands from left to right.
 #[cycle(expr)]
-fn walk_sum<'p>(set: &Setting<'_, 'p>, emitter: &mut Emitter<'p>, sum: &'p Sum) -> Result<Value, EmitFault>
+fn walk_sum<'p>(
+    set: &Setting<'_, 'p>,
+    emitter: &mut Emitter<'p>,
+    sum: &'p Sum,
+) -> Result<Value, EmitFault>
     ensures { Answers (sum_walk (seen set.now) sum.now) emitter.old result emitter.new }
 {
     let mut value = walk_unary(set, emitter, &sum.first)?;
@@ -199,7 +224,11 @@ fn walk_sum<'p>(set: &Setting<'_, 'p>, emitter: &mut Emitter<'p>, sum: &'p Sum) 
 
 /// A further operand; it answers the value of the two.
 #[cycle(expr)]
-fn walk_added<'p>(set: &Setting<'_, 'p>, emitter: &mut Emitter<'p>, added: &'p Added) -> Result<Value, EmitFault>
+fn walk_added<'p>(
+    set: &Setting<'_, 'p>,
+    emitter: &mut Emitter<'p>,
+    added: &'p Added,
+) -> Result<Value, EmitFault>
     ensures { Answers (operate (added_walk (seen set.now) added.now)) emitter.old result emitter.new }
 {
     walk_unary(set, emitter, &added.unary)?;

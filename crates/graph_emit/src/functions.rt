@@ -3,7 +3,7 @@ ghost use Rattle.std.specs.Prelude.{◌≡◌, ◌∷◌, ◌++◌, [], None, So
 ghost use Rattle.faults.specs.declared.kinds.InputKind.TheVariants.{Undeclared};
 ghost use Rattle.graph_emit.specs.Answers.{Answers, AnswersAs};
 ghost use Rattle.graph_emit.specs.Functions.{bound as bound_of, target as target_of, known};
-ghost use Rattle.graph_emit.specs.Program.{known_as, param_made as param_step, params_made as params_step, target_made as target_step, item_made as item_step, functions_made as functions_step, gives_nothing as is_nothing};
+ghost use Rattle.graph_emit.specs.Program.{known_as, param_made as param_step, params_made as params_step, return_made as return_step, target_made as target_step, item_made as item_step, functions_made as functions_step, gives_nothing as is_nothing};
 
 use crate::emitter::{Emitter, refusal};
 use crate::fault::EmitFault;
@@ -101,8 +101,8 @@ fn param_made<'p>(
     ensures made { AnswersAs (λ p. bound_of p ∷ names.old.inner) (param_step names.old.inner param.now)
         emitter.old result emitter.new }
     ensures names { IfOk result (λ p. names.new ≡ record {
-        inner = bound_of p ∷ names.old.inner;
-        outer = names.old.outer
+      inner = bound_of p ∷ names.old.inner;
+      outer = names.old.outer;
     }) }
 {
     let name = param.name.bytes.as_slice();
@@ -126,7 +126,8 @@ fn params_made<'p>(
     let mut made = Vec::new(alloc);
     let mut names = VisibleNames::new(alloc);
     for param in params {
-        push_param(&mut made, param_made(emitter, &mut names, param)?)?;
+        let next = param_made(emitter, &mut names, param)?;
+        push_param(&mut made, next)?;
     }
     Ok(made)
 }
@@ -145,25 +146,32 @@ fn gives_nothing(base: Base, stars: usize) -> bool
     matches!(base, Base::Void) && stars == 0
 }
 
+/// The vertex of what a function gives, if it gives anything.
+fn return_made<'p>(emitter: &mut Emitter<'p>, f: &'p Function) -> Result<Option<u32>, EmitFault>
+    ensures { Answers (return_step f.now) emitter.old result emitter.new }
+{
+    if gives_nothing(f.base, f.stars) {
+        return Ok(None);
+    }
+    let t = emitter.fresh(f.name.tok, VertexForm::Return, f.name.bytes.as_slice())?;
+    Ok(Some(t))
+}
+
 /// A function's parameters and the vertex of what it gives.
-fn target_made<'p>(alloc: Global, emitter: &mut Emitter<'p>, f: &'p Function) -> Result<Target<'p>, EmitFault>
+fn target_made<'p>(
+    alloc: Global,
+    emitter: &mut Emitter<'p>,
+    f: &'p Function,
+) -> Result<Target<'p>, EmitFault>
     ensures target { AnswersAs target_of (target_step f.now) emitter.old result emitter.new }
     ensures name { IfOk result (λ t. t.name.now ≡ f.now.name.bytes) }
 {
     let params = params_made(alloc, emitter, f.params.as_slice())?;
-    let name = f.name.bytes.as_slice();
-    if gives_nothing(f.base, f.stars) {
-        return Ok(Target {
-            name,
-            params,
-            gives: None,
-        });
-    }
-    let gives = emitter.fresh(f.name.tok, VertexForm::Return, name)?;
+    let gives = return_made(emitter, f)?;
     Ok(Target {
-        name,
+        name: f.name.bytes.as_slice(),
         params,
-        gives: Some(gives),
+        gives,
     })
 }
 

@@ -15,7 +15,11 @@ use emit_list::{EmitEdge, EmitList};
 use std::alloc::{AllocError, Global};
 
 /// An item: variables, or the body of a function.
-fn walk_item<'p>(set: &Setting<'_, 'p>, emitter: &mut Emitter<'p>, item: &'p Item) -> Result<(), EmitFault>
+fn walk_item<'p>(
+    set: &Setting<'_, 'p>,
+    emitter: &mut Emitter<'p>,
+    item: &'p Item,
+) -> Result<(), EmitFault>
     ensures { Answers (item_walk (seen set.now) item.now) emitter.old result emitter.new }
 {
     match item {
@@ -28,7 +32,11 @@ fn walk_item<'p>(set: &Setting<'_, 'p>, emitter: &mut Emitter<'p>, item: &'p Ite
 }
 
 /// The items in text order.
-fn walk_items<'p>(set: &Setting<'_, 'p>, emitter: &mut Emitter<'p>, items: &'p [Item]) -> Result<(), EmitFault>
+fn walk_items<'p>(
+    set: &Setting<'_, 'p>,
+    emitter: &mut Emitter<'p>,
+    items: &'p [Item],
+) -> Result<(), EmitFault>
     ensures { Answers (items_walk (seen set.now) items.now) emitter.old result emitter.new }
 {
     for item in items {
@@ -40,8 +48,8 @@ fn walk_items<'p>(set: &Setting<'_, 'p>, emitter: &mut Emitter<'p>, items: &'p [
 fn add_vertices(alloc: Global, list: &mut EmitList, spots: &[Spot<'_>]) -> Result<(), AllocError>
     requires { IsListed (list.old.vertices ++ map (λ spot. shown (made spot)) spots.now) [] }
     ensures { OnOk result (list.new ≡ record {
-        vertices = list.old.vertices ++ map (λ spot. shown (made spot)) spots.now;
-        edges = list.old.edges
+      vertices = list.old.vertices ++ map (λ spot. shown (made spot)) spots.now;
+      edges = list.old.edges;
     }) }
 {
     for spot in spots {
@@ -53,8 +61,8 @@ fn add_vertices(alloc: Global, list: &mut EmitList, spots: &[Spot<'_>]) -> Resul
 fn add_edges(list: &mut EmitList, edges: &[EmitEdge]) -> Result<(), AllocError>
     requires { IsListed list.old.vertices edges.now }
     ensures { OnOk result (list.new ≡ record {
-        vertices = list.old.vertices;
-        edges = list.old.edges ++ edges.now
+      vertices = list.old.vertices;
+      edges = list.old.edges ++ edges.now;
     }) }
 {
     for edge in edges {
@@ -63,13 +71,14 @@ fn add_edges(list: &mut EmitList, edges: &[EmitEdge]) -> Result<(), AllocError>
     Ok(())
 }
 
-/// The graph of a program: first the parameters and the results of its functions have vertices, and then the program
-/// is walked in text order. The alias graph of C is after Zheng and Rugina (POPL 2008).
+/// The graph of a program: first the parameters and the results of its functions have vertices, and then the
+/// program is walked in text order. The alias graph of C is after Zheng and Rugina (POPL 2008).
 ///
-/// The first refusal is answered with its line: `Repeated` for a second function of one name, or a second variable of
-/// one name in one scope; `Undeclared` for a name that is not visible; `WrongArguments` for a call with too few or too
-/// many; `NoValue` for a call without a value that is used for one, and for `return` with a value in a function
-/// without one; `TooManyVertices` where a vertex would have the number 16,777,216. `NoMemory` is the only other fault.
+/// The first refusal is answered with its line: `Repeated` for a second function of one name, or a second variable
+/// of one name in one scope; `Undeclared` for a name that is not visible; `WrongArguments` for a call with too few
+/// or too many; `NoValue` for a call without a value that is used for one, and for `return` with a value in a
+/// function without one; `TooManyVertices` where a vertex would have the number 16,777,216. The only other fault is
+/// `NoMemory`, which also stands for a program of more than 2^32 functions.
 pub fn emit(alloc: Global, program: &Program, kind: EmitKind) -> Result<EmitList, EmitFault>
     ensures graph { MatchResult result (λ list. IsGraph kind program.now list)
         (λ fault. (fault ≡ EmitFault.NoMemory) ⊎ (graph_of kind program.now ≡ Err fault)) }

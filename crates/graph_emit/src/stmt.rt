@@ -29,7 +29,11 @@ pub(crate) fn walk_vars<'p>(
 }
 
 /// A variable is made, and then its initial value flows to it.
-fn walk_var<'p>(set: &Setting<'_, 'p>, emitter: &mut Emitter<'p>, var: &'p Var) -> Result<(), EmitFault>
+fn walk_var<'p>(
+    set: &Setting<'_, 'p>,
+    emitter: &mut Emitter<'p>,
+    var: &'p Var,
+) -> Result<(), EmitFault>
     ensures { Answers (var_walk (seen set.now) var.now) emitter.old result emitter.new }
 {
     let t = emitter.declare(&var.name)?;
@@ -138,10 +142,10 @@ fn walk_stmt<'p>(
 /// The names of parameters.
 fn bind_params<'p>(emitter: &mut Emitter<'p>, params: &[Param<'p>]) -> Result<(), AllocError>
     ensures { OnOk result (emitter.new ≡ record {
-        vertices = emitter.old.vertices;
-        edges = emitter.old.edges;
-        inner = reverse (map bound params.now) ++ emitter.old.inner;
-        outer = emitter.old.outer
+      vertices = emitter.old.vertices;
+      edges = emitter.old.edges;
+      inner = reverse (map bound params.now) ++ emitter.old.inner;
+      outer = emitter.old.outer;
     }) }
 {
     for param in params {

@@ -1,5 +1,5 @@
 //! A line that a terminal shows as it stands.
-ghost use Rattle.std.specs.Prelude.{◌≡◌, ◌≤◌, [], All};
+ghost use Rattle.std.specs.Prelude.{◌≡◌, ◌≤◌, [], All, length};
 ghost use Rattle.hints.specs.Plain.{IsPlain};
 
 use arrayvec::ArrayVec;
@@ -122,7 +122,9 @@ impl Line {
     }
 
     /// How many bytes it has.
-    pub fn len(&self) -> usize {
+    pub fn len(&self) -> usize
+        ensures { result ≡ length self.now }
+    {
         self.bytes.len()
     }
 

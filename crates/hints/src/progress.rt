@@ -152,12 +152,13 @@ pub fn progress_line(seen: &Seen) -> Line {
     line
 }
 
-/// What is said at the end of a closing whose two largest partitions had more edges together than the budget.
+/// What is said at the end of a closing whose two largest partitions had more edges together than the budget. Where there
+/// is one partition, these are its edges.
 pub fn budget_line(edges: u64, budget: u64) -> Line {
     let mut line = Line::new();
-    line.text("graspan: two partitions had ");
+    line.text("graspan: a step loads up to ");
     say_edges(&mut line, edges);
-    line.text(" together, above the ");
+    line.text(", above the ");
     line.number(budget);
     line.text(
         " of --budget; in an empty folder a smaller --part-edges needs less memory and more time (docs/USAGE.md)",

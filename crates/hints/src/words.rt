@@ -390,14 +390,27 @@ fn say_not_an_option(line: &mut Line, command: &str, word: &str) {
     say_help(line);
 }
 
-// Says of a command without words that one stands there.
-fn say_bare(line: &mut Line, words: &WordList) -> bool {
-    if words.len() < 2 {
-        return false;
+// The first word behind the command that isn't '--', which may stand behind any command.
+fn first_behind(words: &WordList) -> Option<&str> {
+    for at in 1..words.len() {
+        let word = words.get(at);
+        if !is_rest(word) {
+            return Some(word);
+        }
     }
+    None
+}
+
+// Says of a command without words that one stands there.
+fn say_bare(line: &mut Line, words: &WordList) -> bool
+    requires { 1 ≤ length words.now }
+{
+    let Some(word) = first_behind(words) else {
+        return false;
+    };
     line.text(words.get(0));
     line.text(" takes nothing more, and ");
-    line.quoted(words.get(1).as_bytes());
+    line.quoted(word.as_bytes());
     line.text(" stands behind it");
     say_help(line);
     true
@@ -470,6 +483,8 @@ pub(crate) fn say_words(line: &mut Line, folder: &str, words: &WordList) {
     if folder.is_empty() {
         say_no_folder(line);
     } else if words.len() == 0 {
+        say_alone(line, folder);
+    } else if is_dashed(folder) && !is_one_of(words.get(0), &COMMANDS) {
         say_alone(line, folder);
     } else if has_empty(words) {
         line.text("a word of the command is empty");

@@ -1,5 +1,5 @@
 //! What a store's manifest says of its vertices, its partitions and its state.
-ghost use Rattle.std.specs.Prelude.{◌≡◌, ◌<◌, ◌≤◌, ◌++◌, ◌∷◌, [], ℕ, List, length, MatchOption};
+ghost use Rattle.std.specs.Prelude.{◌≡◌, ◌<◌, ◌≤◌, ◌++◌, ◌∷◌, [], ℕ, List, length, MatchOption, IfErr};
 ghost use Rattle.faults.specs.Counts.{HasCause};
 ghost use Rattle.io_edge.specs.Devices.{Takes};
 ghost use Rattle.dest_map.specs.Table.{counts_of};

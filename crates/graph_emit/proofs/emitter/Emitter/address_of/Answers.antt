@@ -41,13 +41,13 @@ returns c =
     let number : c.len-number.result ≡ length s.vertices = omega (arith, spots_long ss, ap length same, c.len-number.ensures) in
     let room : length s.vertices < MOST_VERTICES = omega arith in
     let t : State = record {
-          vertices = map made c.add_indexed.new.spots.items;
-          edges = c.self.inside.edges.items;
-          inner = c.self.inside.names.inner;
-          outer = c.self.inside.names.outer;
-        } in
+      vertices = map made c.add_indexed.new.spots.items;
+      edges = c.self.inside.edges.items;
+      inner = c.self.inside.names.inner;
+      outer = c.self.inside.names.outer;
+    } in
     let more : map made c.add_indexed.new.spots.items ≡ map made ss ++ x ∷ [] = spots_more ss c.add_indexed.new.spots.items _ c.in_ok-add_indexed.ensures.spots in
     let is : with_vertex (form.Address c.args.v) [] c.args.tok.number s ≡ t = state_is (with_vertex (form.Address c.args.v) [] c.args.tok.number s) t
-            (ap (λ l. l ++ x ∷ []) (sym same) ∙ sym more)
-            (ap (λ (s : State). s.edges) (sym c.self.view_is)) (ap (λ (s : State). s.inner) (sym c.self.view_is)) (ap (λ (s : State). s.outer) (sym c.self.view_is)) in
+    (ap (λ l. l ++ x ∷ []) (sym same) ∙ sym more)
+    (ap (λ (s : State). s.edges) (sym c.self.view_is)) (ap (λ (s : State). s.inner) (sym c.self.view_is)) (ap (λ (s : State). s.outer) (sym c.self.view_is)) in
     address_new s t c.join.new.self c.args.tok c.args.v c.len-number.result _ none room number is c.in_ok-join.ensures
