@@ -7,3 +7,4 @@ pub mod LookLemmas
 pub mod ShowLemmas
 pub mod TextLemmas
 pub mod CommandLemmas
+pub mod EmitLemmas

@@ -9,7 +9,7 @@ use Rattle.store_law.specs.Left.{IsLeft}
 use Rattle.store_law.specs.Listed.{AreExact}
 use Rattle.store.specs.Import.{texts_of}
 use Rattle.command_words.specs.Command.{Reading, Said}
-use Rattle.graspan_top.specs.Command.{Explains, IsBegunOf, IsTextOf}
+use Rattle.graspan_top.specs.Command.{Explains, IsBegunOf, IsTextOf, knows}
 use Rattle.graspan_top.specs.Given.{Given}
 use Rattle.graspan_top.specs.Printed.{BeginsWhole, Ends, Prints}
 use Rattle.graspan_top.specs.Run.{StopsLeave}
@@ -57,8 +57,9 @@ IsExplained k c status = Explains k.given k.after k.read_rose k.disk_rose k.out_
 -- store whose partitions can't be read, no more stands there than the front of a text that it has.
 abbrev pub IsPrinted : Call → Said → Status → Type 0
 IsPrinted k c status =
-    Prints k.given.tells (IsTextOf k.after c) k.printed_before k.printed_after k.out_rose status
-    × BeginsWhole k.given.tells (IsBegunOf k.after c) k.printed_before k.printed_after k.out_rose status
+    Prints (knows k.given.tells k.given.told c) (IsTextOf k.given.told k.after c) k.printed_before k.printed_after k.out_rose status
+    × BeginsWhole (knows k.given.tells k.given.told c) (IsBegunOf k.given.told k.after c) k.printed_before k.printed_after
+        k.out_rose status
 
 -- Where the disk held what stopped runs of these files leave, or nothing, it holds exactly the closure, and so does what a crash may leave.
 abbrev pub LeavesClosure : {D : Type 0} → disk.Ghosts D → (List ℕ → Option (List ℕ)) → List ℕ → List ℕ → D → D → Type 0

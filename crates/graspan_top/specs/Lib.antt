@@ -8,3 +8,4 @@ pub mod Looks
 pub mod Command
 pub mod Stages
 pub mod Call
+pub mod Emission

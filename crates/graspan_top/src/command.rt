@@ -10,9 +10,10 @@ ghost use Rattle.closing_options.specs.declared.RunOptions.{RunOptions as TheOpt
 ghost use Rattle.command_words.specs.Command.{Reading, Said, run as runs, said};
 ghost use Rattle.graspan_top.specs.declared.status.Status.TheVariants.{Done, NoMemory, Words, WriteFault};
 ghost use Rattle.graspan_top.specs.Call.{AreUnread, IsExplained, IsPrinted, LeavesClosure, MayBeStopped, RefusesWords, the_call};
-ghost use Rattle.graspan_top.specs.Command.{IsBegunOf, IsLook, IsTextOf};
+ghost use Rattle.graspan_top.specs.Command.{IsBegunOf, IsLook, IsTextOf, knows};
 ghost use Rattle.graspan_top.specs.Printed.{Begins, Ends as EndsAs, PrintsFirst, status_of as the_status};
 
+use crate::emission::emit;
 use crate::looks::{Ends, dump, parts, query};
 use crate::print::print_fault;
 use crate::ready_store::Files;
@@ -33,8 +34,10 @@ fn carry_out<I: Inputs, D: Disk, O: Sink>(
 ) -> Result<(), Status>
     ensures explained { IsExplained (the_call I.Inputs D.Disk O.Sink inputs.old inputs.new disk.old disk.new out.old out.new)
         (said command.entry) (the_status result) }
-    ensures printed { PrintsFirst D.tells (IsTextOf (D.seen disk.new) (said command.entry)) (O.told out.old) (O.told out.new) (the_status result) }
-    ensures begun { Begins D.tells (IsBegunOf (D.seen disk.new) (said command.entry)) (O.told out.old) (O.told out.new) (the_status result) }
+    ensures printed { PrintsFirst (knows D.tells (I.told inputs.old) (said command.entry))
+        (IsTextOf (I.told inputs.old) (D.seen disk.new) (said command.entry)) (O.told out.old) (O.told out.new) (the_status result) }
+    ensures begun { Begins (knows D.tells (I.told inputs.old) (said command.entry))
+        (IsBegunOf (I.told inputs.old) (D.seen disk.new) (said command.entry)) (O.told out.old) (O.told out.new) (the_status result) }
     ensures exact { (edges grammar : List ℕ) (options : TheOptions) (show : Option (List ℕ))
         → said command.entry ≡ runs edges grammar options show → IsTrue D.tells → (g e : List ℕ)
         → I.told inputs.old grammar ≡ Some g → I.told inputs.old edges ≡ Some e
@@ -66,6 +69,7 @@ fn carry_out<I: Inputs, D: Disk, O: Sink>(
             out,
         ),
         Command::Query { label, from, to } => query(alloc, disk, label, Ends { from, to }, out),
+        Command::Emit { kind, source } => emit(alloc, kind, source, inputs, out),
         Command::Dump => dump(alloc, disk, out),
         Command::Parts => parts(alloc, disk, out),
     }
@@ -103,20 +107,22 @@ fn end<O: Sink>(out: &mut O, ended: Result<(), Status>) -> Status
     status
 }
 
-/// Carries out what words say: `run`, `query`, `dump` or `parts`, on the store that the disk holds.
+/// Carries out what words say: `run`, `query`, `dump` or `parts` on the store that the disk holds, or `emit`.
 ///
 /// `run EDGES GRAMMAR` imports both files to a blank disk, or finds the store that a run of them has
 /// left, closes the edge file's graph under the grammar file's rules, and prints the partitions, how
 /// many edges each label has, and the edges of the label of `--show`. At Done the partition files list
 /// each (u, A, v) such that some path from u to v spells a word that A derives, once, and no other.
 /// `query LABEL U [V]` prints the vertices that a label reaches from a vertex, `dump` each edge, and
-/// `parts` the partitions and the state. These three only read.
+/// `parts` the partitions and the state. These three only read. `emit KIND SOURCE` prints the graph of a C file, and
+/// makes no call of the disk.
 ///
 /// All files come from outside and may hold any bytes. Refusals come in this order. `run`: the words;
 /// the grammar file read, then checked; the slots of the store, and its copy of the grammar; on an open
 /// store the grammar compared, then the edges; on a blank one the edge file read and checked; the
 /// closing; the label of `--show`; the printing. `query` and `dump`: the words; the slots and the copy;
-/// no store; work left; what is not known; the reading and printing. `parts` asks nothing of work left.
+/// no store; work left; what is not known; the reading and printing. `parts` asks nothing of work left. `emit`: the
+/// words; the file read; its length, its tokens, its program and its graph; the printing.
 /// A fault that is found before the printing prints its one line alone.
 pub fn graspan<I: Inputs, D: Disk, O: Sink>(
     alloc: Global,

@@ -2,6 +2,7 @@
 #![tactic(auto)]
 
 mod command;
+mod emission;
 mod grammar_file;
 mod labels;
 mod looks;

@@ -3,7 +3,7 @@ use Rattle.std.specs.Prelude.{IsTrue, option_map}
 use Rattle.faults.specs.Counts.{Rose}
 use Rattle.command_words.specs.declared.command.Command.{Command}
 use Rattle.command_words.specs.Command.{Said, run, said}
-use Rattle.graspan_top.specs.Command.{Explains, IsBegunOf}
+use Rattle.graspan_top.specs.Command.{Explains, IsBegunOf, knows}
 use Rattle.graspan_top.specs.Given.{Given}
 use Rattle.graspan_top.specs.Printed.{Begins, status_of}
 use Rattle.graspan_top.proofs.command.carry_out.Goals as goal
@@ -45,4 +45,5 @@ pub returns-in-Run-clause-begun : goal.returns-in-Run-clause-begun
 returns-in-Run-clause-begun g c =
     let D = g.D.Disk in
     let O = g.O.Sink in
-    subst (λ (k : Command). Begins D.tells (IsBegunOf (D.seen c.run.new.disk) (said k)) (O.told c.args.out.now) (O.told c.run.new.out) (status_of c.run.result)) (sym c.in-Run.is) c.run.ensures.begun
+    let inputs = g.I.Inputs.told c.args.inputs.now in
+    subst (λ (k : Command). Begins (knows D.tells inputs (said k)) (IsBegunOf inputs (D.seen c.run.new.disk) (said k)) (O.told c.args.out.now) (O.told c.run.new.out) (status_of c.run.result)) (sym c.in-Run.is) c.run.ensures.begun

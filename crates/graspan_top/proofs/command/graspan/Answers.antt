@@ -3,7 +3,7 @@ use Rattle.faults.specs.Counts.{Rose}
 use Rattle.disk_model.specs.Disk.{Contents}
 use Rattle.command_words.specs.Command.{Said, run, said}
 use Rattle.command_words.proofs.ReadingLemmas.{one_reading}
-use Rattle.graspan_top.specs.Command.{Explains, IsBegunOf, IsTextOf}
+use Rattle.graspan_top.specs.Command.{Explains, IsBegunOf, IsTextOf, knows}
 use Rattle.graspan_top.specs.Faults.{of_words}
 use Rattle.graspan_top.specs.Given.{Given}
 use Rattle.graspan_top.specs.Printed.{Begins, BeginsWhole, Prints, PrintsFirst, status_of}
@@ -35,8 +35,11 @@ pub returns-in-Ok-clause-printed : goal.returns-in-Ok-clause-printed
 returns-in-Ok-clause-printed g c = λ d reading.
     let D = g.D.Disk in
     let O = g.O.Sink in
+    let tells = D.tells in
+    let inputs = g.I.Inputs.told c.args.inputs.now in
     let after = D.seen c.carry_out-ended.new.disk in
-    let same : said c.in-Ok.command ≡ d = one_reading c.args.words.now (said c.in-Ok.command) d c.in-Ok.ensures.reading reading in
+    let k = said c.in-Ok.command in
+    let same : k ≡ d = one_reading c.args.words.now k d c.in-Ok.ensures.reading reading in
     let old = O.told c.args.out.now in
     let mid = O.told c.carry_out-ended.new.out in
     let new = O.told c.end.new.out in
@@ -44,24 +47,26 @@ returns-in-Ok-clause-printed g c = λ d reading.
     let rose : Type 0 = Rose (O.faults c.args.out.now) (O.faults c.end.new.out) in
     let more = rose_later (O.faults c.args.out.now) (O.faults c.carry_out-ended.new.out) (O.faults c.end.new.out) (O.faults c.end.new.out) c.carry_out-ended.ensures.writes (omega arith) in
     let ends = ends_later mid new late rose more c.end.result c.end.ensures.ends in
-    let first : PrintsFirst D.tells (IsTextOf after (said c.in-Ok.command)) old mid c.end.result = subst (λ (s : Status). PrintsFirst D.tells (IsTextOf after (said c.in-Ok.command)) old mid s) (sym c.end.ensures.status) c.carry_out-ended.ensures.printed in
-    let begun : Begins D.tells (IsBegunOf after (said c.in-Ok.command)) old mid c.end.result = subst (λ (s : Status). Begins D.tells (IsBegunOf after (said c.in-Ok.command)) old mid s) (sym c.end.ensures.status) c.carry_out-ended.ensures.begun in (
-      subst (λ (k : Said). Prints D.tells (IsTextOf after k) old new rose c.end.result) same (prints D.tells (IsTextOf after (said c.in-Ok.command)) old mid new rose c.end.result first ends),
-      subst (λ (k : Said). BeginsWhole D.tells (IsBegunOf after k) old new rose c.end.result) same (begins D.tells (IsBegunOf after (said c.in-Ok.command)) old mid new rose c.end.result begun ends),
+    let first : PrintsFirst (knows tells inputs k) (IsTextOf inputs after k) old mid c.end.result = subst (λ (s : Status). PrintsFirst (knows tells inputs k) (IsTextOf inputs after k) old mid s) (sym c.end.ensures.status) c.carry_out-ended.ensures.printed in
+    let begun : Begins (knows tells inputs k) (IsBegunOf inputs after k) old mid c.end.result = subst (λ (s : Status). Begins (knows tells inputs k) (IsBegunOf inputs after k) old mid s) (sym c.end.ensures.status) c.carry_out-ended.ensures.begun in (
+      subst (λ (k : Said). Prints (knows tells inputs k) (IsTextOf inputs after k) old new rose c.end.result) same (prints (knows tells inputs k) (IsTextOf inputs after k) old mid new rose c.end.result first ends),
+      subst (λ (k : Said). BeginsWhole (knows tells inputs k) (IsBegunOf inputs after k) old new rose c.end.result) same (begins (knows tells inputs k) (IsBegunOf inputs after k) old mid new rose c.end.result begun ends),
     )
 
 pub returns-in-Err-clause-printed : goal.returns-in-Err-clause-printed
 returns-in-Err-clause-printed g c = λ d reading.
     let D = g.D.Disk in
     let O = g.O.Sink in
+    let inputs = g.I.Inputs.told c.args.inputs.now in
+    let known = knows D.tells inputs d in
     let seen = D.seen c.args.disk.now in
     let old = O.told c.args.out.now in
     let new = O.told c.end-in-Err.new.out in
     let rose : Type 0 = Rose (O.faults c.args.out.now) (O.faults c.end-in-Err.new.out) in
     let s = c.end-in-Err.result in
     let not : s ≡ Done → ⊥ = λ done. words_not_done c.in-Err.fault (sym c.from.ensures ∙ sym c.end-in-Err.ensures.status ∙ done) in (
-      prints D.tells (IsTextOf seen d) old old new rose s (nothing_first D.tells (IsTextOf seen d) old s not) c.end-in-Err.ensures.ends,
-      begins D.tells (IsBegunOf seen d) old old new rose s (nothing_begun_of D.tells seen d old s) c.end-in-Err.ensures.ends,
+      prints known (IsTextOf inputs seen d) old old new rose s (nothing_first known (IsTextOf inputs seen d) old s not) c.end-in-Err.ensures.ends,
+      begins known (IsBegunOf inputs seen d) old old new rose s (nothing_begun_of known inputs seen d old s) c.end-in-Err.ensures.ends,
     )
 
 pub returns-in-Ok-clause-exact : goal.returns-in-Ok-clause-exact
