@@ -13,6 +13,7 @@ STORE is a folder, which is made where it isn't there. It holds the graph, the g
 Commands:
   run EDGES GRAMMAR   import both files, or resume a stopped run of them; close; print partitions and labels
   query LABEL U [V]   print the vertices that LABEL reaches from U, or only V
+  emit KIND SOURCE    print the graph of a C file, for KIND alias or null; STORE is not touched
   dump                print every edge of the closure: source, destination, label
   parts               print the partitions, and whether the closure is finished
 

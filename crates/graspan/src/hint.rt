@@ -21,6 +21,7 @@ fn name_of<'a>(alloc: Global, words: &'a WordList, file: InputFile) -> &'a str {
     match (read_command(alloc, words), file) {
         (Ok(Command::Run { grammar, .. }), InputFile::Grammar) => grammar,
         (Ok(Command::Run { edges, .. }), InputFile::Edges) => edges,
+        (Ok(Command::Emit { source, .. }), InputFile::Source) => source,
         _ => "an input file",
     }
 }

@@ -186,7 +186,7 @@ fn the_folder_comes_first(rt: HostRuntime) -> Result<(), Fail> {
         (
             "store",
             &none,
-            "graspan: what to do with the store store is missing: run, query, dump or parts (graspan --help)",
+            "graspan: what to do with the store store is missing: run, query, emit, dump or parts (graspan --help)",
         ),
         (
             "--hepl",

@@ -8,7 +8,7 @@ use edge_text::vertex_number;
 use graph_words::is_label;
 use io_edge::WordList;
 
-const COMMANDS: [&str; 4] = ["run", "query", "dump", "parts"];
+const COMMANDS: [&str; 5] = ["run", "query", "emit", "dump", "parts"];
 
 const OPTIONS: [&str; 4] = ["workers", "part-edges", "budget", "show"];
 
@@ -416,6 +416,11 @@ fn say_bare(line: &mut Line, words: &WordList) -> bool
     true
 }
 
+fn say_emit(line: &mut Line) {
+    line.text("emit takes a kind, alias or null, and a C file, as in: graspan STORE emit alias x.c");
+    say_help(line);
+}
+
 fn say_no_command(line: &mut Line, word: &str) {
     line.text("there is no command ");
     line.quoted(word.as_bytes());
@@ -441,6 +446,9 @@ fn say_command(line: &mut Line, words: &WordList) -> bool
         say_run(line, words)
     } else if command == "query" {
         say_query(line, words)
+    } else if command == "emit" {
+        say_emit(line);
+        true
     } else if command == "dump" || command == "parts" {
         say_bare(line, words)
     } else {
@@ -467,7 +475,7 @@ fn say_alone(line: &mut Line, folder: &str) {
     }
     line.text("what to do with the store ");
     line.path(folder);
-    line.text(" is missing: run, query, dump or parts");
+    line.text(" is missing: run, query, emit, dump or parts");
     say_help(line);
 }
 
