@@ -4,16 +4,22 @@ use Rattle.std.specs.Option.{option_map}
 use Rattle.faults.specs.declared.kinds.InputKind.{InputKind}
 use Rattle.faults.specs.declared.kinds.InputKind.TheVariants.{TooLong}
 use Rattle.c_lexer.specs.declared.token.Token.{Token}
+use Rattle.c_lexer.specs.declared.fault.LexFault.{LexFault}
 use Rattle.c_lexer.specs.declared.fault.LexFault.TheVariants as lex
 use Rattle.c_lexer.specs.Tokens.{tokens_of}
 use Rattle.c_tree.specs.declared.tree.Program.{Program}
 use Rattle.c_tree.specs.Tokens.{source}
 use Rattle.c_tree.specs.Reading.{kinds_of}
+use Rattle.c_parser.specs.declared.fault.ParseFault.{ParseFault}
+use Rattle.c_parser.specs.declared.fault.ParseFault.TheVariants as parse
 use Rattle.c_parser.specs.Program.{IsFirstWrong, IsOnlyProgram}
 use Rattle.emit_list.specs.Vertices.{Listed}
 use Rattle.graph_emit.specs.declared.fault.EmitKind.{EmitKind}
+use Rattle.graph_emit.specs.declared.fault.EmitFault.{EmitFault}
 use Rattle.graph_emit.specs.declared.fault.EmitFault.TheVariants as emit
 use Rattle.graph_emit.specs.Program.{IsGraph, graph_of}
+use Rattle.source_graph.specs.declared.graph.SourceFault.{SourceFault}
+use Rattle.source_graph.specs.declared.graph.SourceFault.TheVariants.{At, NoMemory}
 
 -- how many line feeds there are
 abbrev pub feeds : List ℕ → ℕ
@@ -55,3 +61,21 @@ pub data HasSourceFault (kind : EmitKind) (text : List ℕ) : ℕ → InputKind 
 -- a text has one graph
 abbrev pub HaveOneGraph : Type 0
 HaveOneGraph = (kind : EmitKind) (text : List ℕ) (a b : Listed) → IsSourceGraph kind text a → IsSourceGraph kind text b → a ≡ b
+
+-- the fault is the first refusal of a text. Want of memory is free.
+abbrev pub IsRefusal : EmitKind → List ℕ → SourceFault → Type 0
+IsRefusal kind text (At line k) = HasSourceFault kind text line k
+IsRefusal kind text NoMemory = Unit {0}
+
+-- the faults of tokens, of a program and of its graph as those of a text
+abbrev pub of_lex : LexFault → SourceFault
+of_lex (lex.At line column k) = At line k
+of_lex lex.NoMemory = NoMemory
+
+abbrev pub of_parse : List Token → ParseFault → SourceFault
+of_parse tokens (parse.At token k) = At (token_line tokens token) k
+of_parse tokens parse.NoMemory = NoMemory
+
+abbrev pub of_emit : EmitFault → SourceFault
+of_emit (emit.At line k) = At line k
+of_emit emit.NoMemory = NoMemory

@@ -1,12 +1,10 @@
 //! The graph of a C text.
-ghost use Rattle.std.specs.Prelude.{◌≡◌, ℕ, IfErr, IfOk};
-ghost use Rattle.faults.specs.declared.kinds.InputKind.{InputKind as AKind};
-ghost use Rattle.source_graph.specs.Sources.{HasSourceFault, IsSourceGraph};
+ghost use Rattle.std.specs.Prelude.{◌≡◌, IfErr, IfOk};
+ghost use Rattle.source_graph.specs.Sources.{IsRefusal, IsSourceGraph, of_emit as emit_as, of_lex as lex_as, of_parse as parse_as};
 
 use crate::lines::{line_at, token_line};
 use c_lexer::{LexFault, Token, lex};
 use c_parser::{ParseFault, parse};
-use c_tree::Program;
 use faults::InputKind;
 use graph_emit::{EmitFault, EmitKind, EmitList, emit};
 use std::alloc::Global;
@@ -28,6 +26,39 @@ pub enum SourceFault {
     NoMemory,
 }
 
+/// The fault of tokens as one of a text.
+fn of_lex(fault: LexFault) -> SourceFault
+    ensures { result ≡ lex_as fault }
+{
+    match fault {
+        LexFault::At { line, kind, .. } => SourceFault::At { line, kind },
+        LexFault::NoMemory => SourceFault::NoMemory,
+    }
+}
+
+/// The fault of a program as one of a text with these tokens.
+fn of_parse(tokens: &[Token], fault: ParseFault) -> SourceFault
+    ensures { result ≡ parse_as tokens.now fault }
+{
+    match fault {
+        ParseFault::At { token, kind } => SourceFault::At {
+            line: token_line(tokens, token),
+            kind,
+        },
+        ParseFault::NoMemory => SourceFault::NoMemory,
+    }
+}
+
+/// The fault of a graph as one of a text.
+fn of_emit(fault: EmitFault) -> SourceFault
+    ensures { result ≡ emit_as fault }
+{
+    match fault {
+        EmitFault::At { line, kind } => SourceFault::At { line, kind },
+        EmitFault::NoMemory => SourceFault::NoMemory,
+    }
+}
+
 /// The graph of a C text.
 ///
 /// A text of more than 16,777,216 bytes is `TooLong`, at the line that holds the first byte past them. Else the first
@@ -36,7 +67,7 @@ pub enum SourceFault {
 /// for want of memory.
 pub fn source_graph(alloc: Global, text: &[u8], kind: EmitKind) -> Result<EmitList, SourceFault>
     ensures graph { IfOk result (λ list. IsSourceGraph kind text.now list) }
-    ensures fault { IfErr result (λ e. (line : ℕ) (k : AKind) → e ≡ SourceFault.At line k → HasSourceFault kind text.now line k) }
+    ensures fault { IfErr result (IsRefusal kind text.now) }
 {
     if text.len() > LONGEST_SOURCE {
         return Err(SourceFault::At {
@@ -46,22 +77,14 @@ pub fn source_graph(alloc: Global, text: &[u8], kind: EmitKind) -> Result<EmitLi
     }
     let tokens = match lex(alloc, text) {
         Ok(tokens) => tokens,
-        Err(LexFault::At { line, kind, .. }) => return Err(SourceFault::At { line, kind }),
-        Err(LexFault::NoMemory) => return Err(SourceFault::NoMemory),
+        Err(fault) => return Err(of_lex(fault)),
     };
     let program = match parse(alloc, text, &tokens) {
         Ok(program) => program,
-        Err(ParseFault::At { token, kind }) => {
-            return Err(SourceFault::At {
-                line: token_line(&tokens, token),
-                kind,
-            });
-        }
-        Err(ParseFault::NoMemory) => return Err(SourceFault::NoMemory),
+        Err(fault) => return Err(of_parse(&tokens, fault)),
     };
     match emit(alloc, &program, kind) {
         Ok(list) => Ok(list),
-        Err(EmitFault::At { line, kind }) => Err(SourceFault::At { line, kind }),
-        Err(EmitFault::NoMemory) => Err(SourceFault::NoMemory),
+        Err(fault) => Err(of_emit(fault)),
     }
 }
