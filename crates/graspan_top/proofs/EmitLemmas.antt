@@ -1,7 +1,6 @@
 -- The graph of a C file that was read up to a limit, and what is printed of it.
-use Rattle.std.proofs.Common.{◌≡◌, ◌∙◌, inl, inr, ℕ, ◌<◌, ◌≤◌, List, Bool, Option, Some, None, Ok, Err, length, length-take, take, drop, refl, sym, ap, subst, arith}
+use Rattle.std.proofs.Common.{◌≡◌, ◌∙◌, inl, inr, ℕ, ◌+◌, ◌<◌, ◌≤◌, List, Bool, Option, Some, None, Ok, Err, length, length-take, take, take-take, drop, refl, sym, ap, subst, arith}
 use Rattle.std.specs.Prelude.{IsTrue, IfErr, Result, is_some}
-use Rattle.std.proofs.Math.ListN.{take-take}
 use Rattle.faults.specs.Reasons.{Implies}
 use Rattle.faults.specs.declared.kinds.InputFile.{InputFile}
 use Rattle.faults.specs.declared.kinds.InputFile.TheVariants.{Source}
@@ -106,7 +105,7 @@ the_emit_text one told kind list is text t =
 
 -- and there is such a text, where the file is told
 pub some_emit_text : (told : Option (List ℕ)) (kind : GraphKind) (list : Listed) → WhereTold told (λ s. IsSourceGraph (graph_kind kind) s list) → IsTrue (is_some told) → IsEmitText told kind (list_bytes list)
-some_emit_text None kind list is t = absurd t
+some_emit_text None kind list is t = absurd (cc t)
 some_emit_text (Some file) kind list is t =
     record { file = file; file_is = refl; list = list; graph = is file refl; printed = refl }
 

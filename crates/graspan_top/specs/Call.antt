@@ -59,7 +59,7 @@ abbrev pub IsPrinted : Call → Said → Status → Type 0
 IsPrinted k c status =
     Prints (knows k.given.tells k.given.told c) (IsTextOf k.given.told k.after c) k.printed_before k.printed_after k.out_rose status
     × BeginsWhole (knows k.given.tells k.given.told c) (IsBegunOf k.given.told k.after c) k.printed_before k.printed_after
-        k.out_rose status
+    k.out_rose status
 
 -- Where the disk held what stopped runs of these files leave, or nothing, it holds exactly the closure, and so does what a crash may leave.
 abbrev pub LeavesClosure : {D : Type 0} → disk.Ghosts D → (List ℕ → Option (List ℕ)) → List ℕ → List ℕ → D → D → Type 0

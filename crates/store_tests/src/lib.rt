@@ -6,6 +6,8 @@ mod commands;
 #[cfg(test)]
 mod disks;
 #[cfg(test)]
+mod emission;
+#[cfg(test)]
 mod failures;
 #[cfg(test)]
 mod fixtures;
