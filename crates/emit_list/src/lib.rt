@@ -2,11 +2,13 @@
 #![tactic(auto)]
 
 mod edge;
+mod laws;
 mod list;
 mod print;
 mod vertex;
 
 pub use edge::{EmitEdge, EmitLabel};
+pub use laws::list_reads_back;
 pub use list::EmitList;
 pub use print::print_edges;
 pub use vertex::{MOST_VERTICES, Vertex, VertexForm};

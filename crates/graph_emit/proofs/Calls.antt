@@ -1,11 +1,10 @@
 -- Where calls go.
-use Rattle.std.proofs.Common.{◌≡◌, ◌∙◌, inl, inr, sym, ap, refl, ℕ, ◌==◌, Bool, true, false, cond, zero, suc, ◌+◌, ◌<◌, List, [], ◌∷◌, length, drop, get_or, Option, Some, None, Result, Ok, Err, arith}
+use Rattle.std.proofs.Common.{◌≡◌, ◌∙◌, inr, sym, ap, refl, ℕ, ◌==◌, true, false, cond, zero, suc, ◌+◌, ◌<◌, List, [], ◌∷◌, length, drop, get_or, Option, Some, None, Err, arith}
 use Rattle.std.specs.Prelude.{map, slice_get}
 use Rattle.std.specs.Option.{option_map}
 use Rattle.std.proofs.lemmas.Bool.Decides.{nat_tests}
 use Rattle.std.proofs.lemmas.List.{length-map}
 use Rattle.faults.specs.declared.kinds.InputKind.TheVariants as input
-use Rattle.c_tree.specs.declared.tree.Tok.{Tok}
 use Rattle.c_tree.specs.declared.tree.Name.{Name}
 use Rattle.emit_list.specs.declared.vertex.VertexForm.TheVariants as form
 use Rattle.emit_list.specs.declared.edge.EmitLabel.TheVariants as label

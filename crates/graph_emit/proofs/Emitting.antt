@@ -1,9 +1,8 @@
 -- The steps on the graph, and what the code keeps for them.
-use Rattle.std.proofs.Common.{◌≡◌, ◌∙◌, inl, inr, sym, ap, refl, subst, ℕ, ◌+◌, ◌<◌, ◌≤◌, Bool, true, false, cond, List, [], ◌∷◌, ◌++◌, length, Option, Some, None, Result, Ok, Err, arith}
-use Rattle.std.specs.Prelude.{nat_lt, nat_eq, is_some, map, IsErrAnd}
+use Rattle.std.proofs.Common.{◌≡◌, ◌∙◌, sym, ap, refl, subst, ℕ, ◌<◌, ◌≤◌, Bool, false, cond, List, [], ◌∷◌, ◌++◌, length, Option, Some, None, Result, Ok, Err, arith}
+use Rattle.std.specs.Prelude.{nat_lt, is_some, map, IsErrAnd}
 use Rattle.std.specs.Borrow.{Bor}
-use Rattle.std.specs.Option.{option_map, option_copied}
-use Rattle.std.specs.Map.{update}
+use Rattle.std.specs.Option.{option_copied}
 use Rattle.std.specs.BTreeMap.{BTreeMap}
 use Rattle.std.proofs.lemmas.Bool.{lt-ltb}
 use Rattle.std.proofs.lemmas.Bool.Decides.{nat_tests}
@@ -14,17 +13,16 @@ use Rattle.c_tree.specs.declared.tree.Name.{Name}
 use Rattle.emit_list.specs.declared.vertex.VertexForm.{VertexForm}
 use Rattle.emit_list.specs.declared.vertex.VertexForm.TheVariants as form
 use Rattle.emit_list.specs.declared.vertex.TheConstants.{MOST_VERTICES}
-use Rattle.emit_list.specs.declared.edge.EmitEdge.{EmitEdge}
 use Rattle.emit_list.specs.declared.edge.EmitLabel.TheVariants as label
 use Rattle.emit_list.specs.Vertices.{made_for}
 use Rattle.visible_names.specs.Names.{Bound, bound_to}
 use Rattle.graph_emit.specs.declared.emitter.Spot.{Spot}
 use Rattle.graph_emit.specs.declared.fault.EmitFault.{EmitFault}
 use Rattle.graph_emit.specs.declared.fault.EmitFault.TheVariants as fault
-use Rattle.graph_emit.specs.State.{Made, State, Walk, done, and_then, ◌⟫◌, fresh, with_vertex, join, is_deref_of, is_address_of, place_of, deref_or_new, deref_of, address_or_new, address_of, bind, declare}
-use Rattle.graph_emit.specs.Answers.{Gives, Refuses, AnswersAs, Answers, made, at_number, IsIndexed}
-use Rattle.graph_emit.proofs.Steps.{given, refused, answer_ok, answer_err, GoesOn, goes, goes_by, stops_by, ends_done, pair_of}
-use Rattle.graph_emit.proofs.Index.{indexed_plain, indexed_deref, indexed_address}
+use Rattle.graph_emit.specs.State.{State, Walk, done, and_then, ◌⟫◌, fresh, with_vertex, join, is_deref_of, is_address_of, place_of, deref_or_new, deref_of, address_or_new, address_of, bind, declare}
+use Rattle.graph_emit.specs.Answers.{Gives, Answers, made, IsIndexed}
+use Rattle.graph_emit.proofs.Steps.{answer_ok, GoesOn, goes, goes_by, stops_by, ends_done, pair_of}
+use Rattle.graph_emit.proofs.Index.{indexed_plain}
 
 -- ---- room
 pub fresh_room : (tok : Tok) (f : VertexForm) (name : List ℕ) (s : State) → length s.vertices < MOST_VERTICES → fresh tok f name s ≡ Ok (with_vertex f name tok.number s, length s.vertices)

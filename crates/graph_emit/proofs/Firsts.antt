@@ -1,11 +1,10 @@
 -- The functions of a program, and their parameters, one by one.
-use Rattle.std.proofs.Common.{◌≡◌, ◌∙◌, refl, sym, ap, ℕ, Bool, true, false, cond, List, [], ◌∷◌, ◌++◌, Option, Some, None}
+use Rattle.std.proofs.Common.{◌≡◌, ◌∙◌, refl, sym, ap, ℕ, Bool, true, false, cond, List, [], ◌∷◌, ◌++◌, Some, None}
 use Rattle.std.specs.Prelude.{map, reverse, is_some}
 use Rattle.std.proofs.lemmas.List.{map-append, reverse-append, reverse-reverse}
 use Rattle.faults.specs.declared.kinds.InputKind.TheVariants as input
 use Rattle.c_tree.specs.declared.tree.Param.{Param}
 use Rattle.c_tree.specs.declared.tree.Function.{Function}
-use Rattle.c_tree.specs.declared.tree.Declaration.{Declaration}
 use Rattle.c_tree.specs.declared.tree.Item.{Item}
 use Rattle.c_tree.specs.declared.tree.Item.TheVariants as item
 use Rattle.emit_list.specs.declared.vertex.VertexForm.TheVariants as form
@@ -13,7 +12,7 @@ use Rattle.visible_names.specs.Names.{Bound, bound_to}
 use Rattle.graph_emit.specs.declared.functions.Param.{Param as MadeParam}
 use Rattle.graph_emit.specs.State.{State, Walk, done, ◌⟫◌, refuse, fresh, Target}
 use Rattle.graph_emit.specs.Functions.{bound}
-use Rattle.graph_emit.specs.Program.{Known, known_as, param_made, params_made, gives_nothing, return_made, target_made, function_made, item_made}
+use Rattle.graph_emit.specs.Program.{Known, known_as, param_made, params_made, gives_nothing, return_made, target_made, item_made}
 use Rattle.graph_emit.proofs.Steps.{GoesOn, starts_by}
 
 abbrev pub with_param : List Bound → List ℕ → ℕ → Walk (List Bound)

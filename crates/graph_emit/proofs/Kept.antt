@@ -1,8 +1,7 @@
 -- What the vertices and edges of a graph keep, and that each way to add to them keeps it.
-use Rattle.std.proofs.Common.{◌≡◌, ◌⊎◌, inl, inr, refl, sym, ap, ◌∙◌, subst, ℕ, zero, suc, ◌+◌, ◌<◌, ◌≤◌, ◌==◌, true, false, List, [], ◌∷◌, ◌++◌, length, length-append, append-nil, Option, Some, None, arith}
+use Rattle.std.proofs.Common.{◌≡◌, ◌⊎◌, inl, inr, refl, sym, ap, ◌∙◌, subst, ℕ, zero, suc, ◌+◌, ◌<◌, ◌≤◌, ◌==◌, false, List, [], ◌∷◌, ◌++◌, length, length-append, append-nil, Some, None, arith}
 use Rattle.std.specs.Prelude.{Contains, All}
 use Rattle.std.proofs.lemmas.List.Elements.{All-nil, All-cons, All-append, All-weaker, Contains-append_left, Contains-append_right, Contains-append_cases}
-use Rattle.std.proofs.lemmas.Bool.{eqb-true}
 use Rattle.emit_list.specs.declared.vertex.VertexForm.{VertexForm}
 use Rattle.emit_list.specs.declared.vertex.VertexForm.TheVariants as form
 use Rattle.emit_list.specs.declared.vertex.TheConstants.{MOST_VERTICES}
@@ -11,7 +10,7 @@ use Rattle.emit_list.specs.declared.edge.EmitLabel.{EmitLabel}
 use Rattle.emit_list.specs.declared.edge.EmitLabel.TheVariants as label
 use Rattle.emit_list.specs.Vertices.{made_for, IsBelow, IsEdgeBelow, inverse, edge}
 use Rattle.graph_emit.specs.State.{Made, is_deref_of, is_address_of, place_of}
-use Rattle.graph_emit.proofs.Forms.{Has, has_one, has_within, has_front, has_new, has_cases, missed_has, Grows, grows_new}
+use Rattle.graph_emit.proofs.Forms.{Has, has_within, has_front, has_cases, missed_has}
 
 pub record Kept (ms : List Made) (es : List EmitEdge) : Type 0 where
   pub few : length ms ≤ MOST_VERTICES

@@ -23,7 +23,7 @@ use Rattle.c_tree.specs.declared.tree.Stmt.TheVariants as stmt
 use Rattle.emit_list.specs.declared.vertex.VertexForm.TheVariants as form
 use Rattle.graph_emit.specs.declared.emitter.Value.{Value}
 use Rattle.graph_emit.specs.State.{Walk, done, ◌⟫◌, fresh, pointed_to, addressed, plain, flow, variable, scoped, Setting}
-use Rattle.graph_emit.specs.Walk.{CallWalk, OperandWalk, goes_to, value_of, call_step, place_step, pointer_step, unary_step, added_step, compared_step, expr_step, sum_step, call_walk, place_walk, pointer_walk, unary_walk, added_walk, compared_walk, sum_walk, expr_walk, operate, operate_all, compare_with, vars_walk, in_order, other_walk, returned, stmt_step, stmt_walk}
+use Rattle.graph_emit.specs.Walk.{CallWalk, OperandWalk, goes_to, value_of, call_step, place_step, pointer_step, unary_step, added_step, compared_step, expr_step, sum_step, call_walk, place_walk, pointer_walk, unary_walk, added_walk, compared_walk, sum_walk, expr_walk, operate, operate_all, vars_walk, in_order, returned, stmt_step, stmt_walk}
 
 pub call_function : (set : Setting) (name : Name) (args : List Expr) → call_walk set (call.Function name args) ≡ record { walk = set.goes name ⟫ goes_to set name (map (expr_walk set) args); tok = name.tok }
 unfolding call_walk place_walk pointer_walk unary_walk added_walk compared_walk expr_walk sum_walk

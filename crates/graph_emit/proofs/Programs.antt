@@ -1,5 +1,5 @@
 -- What the walks of statements and of a whole program keep.
-use Rattle.std.proofs.Common.{◌≡◌, inl, inr, refl, sym, ap, ◌∙◌, subst, ℕ, ◌<◌, Bool, true, false, cond, List, [], ◌∷◌, length, Option, Some, None, Result, Ok, Err, arith}
+use Rattle.std.proofs.Common.{◌≡◌, refl, sym, ap, ◌∙◌, subst, ℕ, ◌<◌, Bool, true, false, cond, List, [], ◌∷◌, length, Option, Some, None, Ok, arith}
 use Rattle.std.specs.Prelude.{All, map, reverse, find, is_some, slice_get}
 use Rattle.std.specs.Option.{option_map}
 use Rattle.std.specs.Str.{bytes_eq}
@@ -23,12 +23,10 @@ use Rattle.c_tree.specs.declared.tree.Program.{Program}
 use Rattle.emit_list.specs.declared.vertex.VertexForm.{VertexForm}
 use Rattle.emit_list.specs.declared.vertex.VertexForm.TheVariants as form
 use Rattle.emit_list.specs.declared.vertex.Vertex.{Vertex}
-use Rattle.emit_list.specs.Vertices.{HasForm, IsEdgeBelow, IsListed, IsGraphOfProgram}
+use Rattle.emit_list.specs.Vertices.{HasForm, IsEdgeBelow, IsGraphOfProgram}
 use Rattle.visible_names.specs.Names.{Bound, bound_to}
-use Rattle.graph_emit.specs.declared.emitter.Value.{Value}
 use Rattle.graph_emit.specs.declared.fault.EmitKind.{EmitKind}
-use Rattle.graph_emit.specs.declared.fault.EmitFault.{EmitFault}
-use Rattle.graph_emit.specs.State.{Made, State, Walk, done, and_then, ◌⟫◌, refuse, fresh, flow, declare, scoped, Target, Setting}
+use Rattle.graph_emit.specs.State.{Made, State, done, ◌⟫◌, refuse, fresh, flow, declare, Target, Setting}
 use Rattle.graph_emit.specs.Walk.{expr_walk, place_walk, call_walk, initial, var_walk, vars_walk, in_order, returned, stmt_walk, body_walk}
 use Rattle.graph_emit.specs.Program.{Known, known_as, param_made, params_made, gives_nothing, return_made, target_made, function_made, item_made, functions_made, known_or, setting, item_walk, items_walk, program_walk, blank, graph_of, shown, listed}
 use Rattle.graph_emit.proofs.Forms.{Has, has_within, Grows, grows_none, grows_then}

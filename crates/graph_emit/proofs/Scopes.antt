@@ -1,11 +1,11 @@
 -- Steps in a scope of their own.
-use Rattle.std.proofs.Common.{◌≡◌, inl, inr, refl, sym, ap, subst, ◌∙◌, ℕ, List, ◌+◌, ◌≤◌, ◌++◌, take, drop, length, length-append, arith, Result, Ok, Err}
+use Rattle.std.proofs.Common.{◌≡◌, inl, inr, sym, ap, subst, ◌∙◌, ℕ, List, ◌≤◌, ◌++◌, take, drop, length, length-append, arith, Result, Ok, Err}
 use Rattle.std.specs.Prelude.{IsErrAnd}
 use Rattle.std.proofs.Math.Seq.{take-append_seam, drop-append_seam}
 use Rattle.visible_names.specs.Names.{Bound}
 use Rattle.graph_emit.specs.declared.fault.EmitFault.{EmitFault}
 use Rattle.graph_emit.specs.State.{State, Walk, closed, opened, scoped}
-use Rattle.graph_emit.specs.Answers.{Gives, Refuses, AnswersAs, Answers}
+use Rattle.graph_emit.specs.Answers.{Refuses, Answers}
 use Rattle.graph_emit.proofs.Steps.{given, refused, answer_ok, answer_err, state_is}
 
 first_part : (a b c d : List Bound) → a ++ b ≡ c ++ d → length b ≡ length d → a ≡ c

@@ -1,9 +1,8 @@
 -- Steps one after the other, and what the code answers of them.
-use Rattle.std.proofs.Common.{◌≡◌, ◌⊎◌, inl, inr, refl, sym, ap, ◌∙◌, subst, List, ◌++◌, length, Result, Ok, Err}
+use Rattle.std.proofs.Common.{◌≡◌, inl, inr, refl, sym, ap, ◌∙◌, subst, Result, Ok, Err}
 use Rattle.std.specs.Prelude.{IsErrAnd}
 use Rattle.faults.specs.declared.kinds.InputKind.{InputKind}
 use Rattle.c_tree.specs.declared.tree.Tok.{Tok}
-use Rattle.visible_names.specs.Names.{Bound}
 use Rattle.graph_emit.specs.declared.fault.EmitFault.{EmitFault}
 use Rattle.graph_emit.specs.declared.fault.EmitFault.TheVariants as fault
 use Rattle.graph_emit.specs.State.{State, Walk, done, refuse, and_then, ◌⟫◌}

@@ -1,7 +1,7 @@
 -- What the walks of trees keep.
-use Rattle.std.proofs.Common.{◌≡◌, inl, inr, refl, sym, ap, ◌∙◌, subst, ℕ, ◌<◌, ◌==◌, Bool, true, false, cond, List, [], ◌∷◌, length, Option, Some, None, arith}
+use Rattle.std.proofs.Common.{◌≡◌, inl, refl, sym, ap, ◌∙◌, subst, ℕ, ◌<◌, ◌==◌, true, false, cond, List, [], ◌∷◌, length, Option, Some, None, arith}
 use Rattle.std.specs.Prelude.{All, map}
-use Rattle.std.proofs.lemmas.List.Elements.{All-nil, All-head, All-tail}
+use Rattle.std.proofs.lemmas.List.Elements.{All-head, All-tail}
 use Rattle.faults.specs.declared.kinds.InputKind.TheVariants as input
 use Rattle.c_tree.specs.declared.tree.Tok.{Tok}
 use Rattle.c_tree.specs.declared.tree.Name.{Name}
@@ -26,7 +26,7 @@ use Rattle.graph_emit.specs.declared.fault.EmitKind.{EmitKind}
 use Rattle.graph_emit.specs.State.{Made, Walk, done, ◌⟫◌, refuse, fresh, join, pointed_to, addressed, plain, flow, variable, Target, Setting}
 use Rattle.graph_emit.specs.Walk.{CallWalk, OperandWalk, arg_flows, args_flow, given, goes_to, given_or, value_of, operate, operate_all, call_walk, place_walk, pointer_walk, unary_walk, added_walk, compared_walk, expr_walk, sum_walk}
 use Rattle.graph_emit.specs.Program.{Known}
-use Rattle.graph_emit.proofs.Forms.{Has, has_within, Grows, grows_none, grows_then}
+use Rattle.graph_emit.proofs.Forms.{has_within}
 use Rattle.graph_emit.proofs.Keeps.{IsVariable, Callable, variables_grown, callable_grown, Keeps, keeps_done, keeps_refused, keeps_then, keeps_weaker, Nothing, Inside, IsOf, IsPlace, place_inside, fresh_keeps, join_keeps, pointed_keeps, addressed_keeps, flow_keeps, variable_keeps}
 use Rattle.graph_emit.proofs.Layers.{call_function, call_malloc, place_name, place_star, pointer_name, pointer_star, pointer_call, pointer_paren, unary_place, unary_address, unary_call, unary_number, unary_null, unary_paren, added_is, compared_is, sum_is, right_walk, expr_is}
 

@@ -1,13 +1,11 @@
 -- The graph of a whole program, and its list.
-use Rattle.std.proofs.Common.{◌≡◌, ◌⊎◌, ◌∙◌, inl, inr, refl, sym, ap, subst, ℕ, ◌+◌, ◌<◌, ◌≤◌, List, [], ◌∷◌, ◌++◌, length, drop, get_or, Some, Result, Ok, Err, arith}
-use Rattle.std.specs.Prelude.{All, map, IsErrAnd, MatchResult, slice_get}
-use Rattle.std.specs.Option.{option_map}
+use Rattle.std.proofs.Common.{◌≡◌, ◌⊎◌, ◌∙◌, refl, sym, ap, subst, ℕ, ◌+◌, ◌<◌, List, [], ◌∷◌, ◌++◌, length, drop, get_or, Result, Ok, Err}
+use Rattle.std.specs.Prelude.{map, IsErrAnd, MatchResult}
 use Rattle.std.proofs.lemmas.List.{drop_more}
 use Rattle.std.proofs.lemmas.List.Elements.{All-nil}
 use Rattle.c_tree.specs.declared.tree.Item.{Item}
 use Rattle.c_tree.specs.declared.tree.Program.{Program}
 use Rattle.emit_list.specs.declared.vertex.Vertex.{Vertex}
-use Rattle.emit_list.specs.declared.vertex.TheConstants.{MOST_VERTICES}
 use Rattle.emit_list.specs.declared.edge.EmitEdge.{EmitEdge}
 use Rattle.emit_list.specs.Vertices.{Listed, HasForm, IsBelow, IsEdgeBelow, IsListed, IsGraphOfProgram}
 use Rattle.graph_emit.specs.declared.emitter.Spot.{Spot}
@@ -15,9 +13,9 @@ use Rattle.graph_emit.specs.declared.fault.EmitKind.{EmitKind}
 use Rattle.graph_emit.specs.declared.fault.EmitFault.{EmitFault}
 use Rattle.graph_emit.specs.declared.fault.EmitFault.TheVariants as fault
 use Rattle.graph_emit.specs.State.{Made, State, Walk, ◌⟫◌}
-use Rattle.graph_emit.specs.Answers.{Gives, Refuses, Answers, made}
+use Rattle.graph_emit.specs.Answers.{Refuses, Answers, made}
 use Rattle.graph_emit.specs.Program.{Known, functions_made, items_walk, setting, program_walk, blank, graph_of, shown, listed, IsGraph}
-use Rattle.graph_emit.proofs.Steps.{given, refused, GoesOn, goes_by, stops}
+use Rattle.graph_emit.proofs.Steps.{given, GoesOn, goes_by}
 use Rattle.graph_emit.proofs.Programs.{graph_kept}
 
 -- the items with a setting for their functions

@@ -1,5 +1,5 @@
 -- What the code keeps of functions.
-use Rattle.std.specs.Prelude.{ℕ, List, [], ◌∷◌, length, map, reverse}
+use Rattle.std.specs.Prelude.{List, [], ◌∷◌, length, map, reverse}
 use Rattle.visible_names.specs.Names.{Bound}
 use Rattle.graph_emit.specs.declared.functions.Param.{Param as MadeParam}
 use Rattle.graph_emit.specs.declared.functions.Target.{Target as MadeTarget}

@@ -1,5 +1,5 @@
 -- The graph of a program.
-use Rattle.std.specs.Prelude.{◌≡◌, ℕ, zero, suc, Bool, true, false, is_some, List, [], ◌∷◌, ◌++◌, map, reverse, find, Option, Some, None, Result, Ok, Err, if◌then◌else◌}
+use Rattle.std.specs.Prelude.{◌≡◌, ℕ, zero, Bool, true, false, is_some, List, [], ◌∷◌, map, reverse, find, Option, Some, None, Result, Ok, if◌then◌else◌}
 use Rattle.std.specs.Option.{option_map}
 use Rattle.std.specs.Str.{bytes_eq}
 use Rattle.faults.specs.declared.kinds.InputKind.TheVariants as input
@@ -17,7 +17,7 @@ use Rattle.emit_list.specs.Vertices.{Listed}
 use Rattle.visible_names.specs.Names.{Bound, bound_to}
 use Rattle.graph_emit.specs.declared.fault.EmitKind.{EmitKind}
 use Rattle.graph_emit.specs.declared.fault.EmitFault.{EmitFault}
-use Rattle.graph_emit.specs.State.{Made, State, Walk, done, and_then, ◌⟫◌, refuse, fresh, Target, Setting}
+use Rattle.graph_emit.specs.State.{Made, State, Walk, done, ◌⟫◌, refuse, fresh, Target, Setting}
 use Rattle.graph_emit.specs.Walk.{vars_walk, body_walk}
 
 -- ---- first the functions: vertices for their parameters, and for what they give

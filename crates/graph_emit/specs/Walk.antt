@@ -1,5 +1,5 @@
 -- The walk of expressions and statements: one case for each form.
-use Rattle.std.specs.Prelude.{ℕ, ◌==◌, Bool, true, List, [], ◌∷◌, length, map, reverse, Option, Some, None, if◌then◌else◌}
+use Rattle.std.specs.Prelude.{ℕ, ◌==◌, true, List, [], ◌∷◌, length, map, reverse, Option, Some, None, if◌then◌else◌}
 use Rattle.faults.specs.declared.kinds.InputKind.TheVariants as input
 use Rattle.c_tree.specs.declared.tree.Tok.{Tok}
 use Rattle.c_tree.specs.declared.tree.Name.{Name}

@@ -1,4 +1,4 @@
-use Rattle.std.proofs.Common.{◌≡◌, ◌∙◌, ap, sym, refl, subst, length, List, [], None, Some, rules, arith}
+use Rattle.std.proofs.Common.{◌∙◌, ap, sym, refl, length, arith}
 use Rattle.std.specs.Prelude.{map}
 use Rattle.faults.specs.declared.kinds.InputKind.TheVariants as input
 use Rattle.c_tree.specs.declared.tree.Tok.{Tok}
@@ -6,12 +6,11 @@ use Rattle.c_tree.specs.declared.tree.Call.TheVariants as call
 use Rattle.c_tree.specs.declared.tree.Place.TheVariants as place
 use Rattle.c_tree.specs.declared.tree.Pointer.TheVariants as pointer
 use Rattle.c_tree.specs.declared.tree.Unary.TheVariants as unary
-use Rattle.emit_list.specs.declared.vertex.VertexForm.TheVariants as form
 use Rattle.graph_emit.specs.declared.fault.EmitFault.TheVariants as fault
 use Rattle.graph_emit.specs.Settings.{seen}
-use Rattle.graph_emit.specs.State.{Walk, ◌⟫◌, fresh, flow}
+use Rattle.graph_emit.specs.State.{◌⟫◌, flow}
 use Rattle.graph_emit.specs.Functions.{bound, target as target_of}
-use Rattle.graph_emit.specs.Walk.{CallWalk, args_flow as args_step, given_or, value_of, operate, operate_all, call_walk, place_walk, pointer_walk, unary_walk, added_walk, compared_walk, expr_walk, sum_walk}
+use Rattle.graph_emit.specs.Walk.{CallWalk, args_flow as args_step, given_or, operate, operate_all, call_walk, place_walk, pointer_walk, unary_walk, added_walk, expr_walk}
 use Rattle.graph_emit.proofs.Steps.{starts, starts_by, goes_as, goes, goes_by, stops_on, stops_by, ends, ends_done, ends_as, ends_refused}
 use Rattle.graph_emit.proofs.Calls.{goes_known, goes_unknown, goes_flow, goes_not, next_arg}
 use Rattle.graph_emit.proofs.Loops.{rest_at}

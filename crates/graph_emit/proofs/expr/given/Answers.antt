@@ -1,6 +1,4 @@
-use Rattle.std.proofs.Common.{◌≡◌, ◌∙◌, ap, refl, None, Some}
-use Rattle.emit_list.specs.declared.vertex.VertexForm.TheVariants as form
-use Rattle.graph_emit.specs.State.{fresh}
+use Rattle.std.proofs.Common.{ap}
 use Rattle.graph_emit.specs.Walk.{given as given_step}
 use Rattle.graph_emit.proofs.Steps.{starts_by, goes_by, stops_by, ends_done}
 use Rattle.graph_emit.proofs.Calls.{none_is, given_named}

@@ -1,4 +1,4 @@
-use Rattle.std.proofs.Common.{◌≡◌, ◌∙◌, refl, ap, List, ◌∷◌}
+use Rattle.std.proofs.Common.{◌∙◌, refl, ap, ◌∷◌}
 use Rattle.graph_emit.specs.Program.{Known}
 use Rattle.graph_emit.specs.Functions.{target}
 use Rattle.graph_emit.proofs.Steps.{starts_by, goes_by, stops_by, ends_as, ends_refused}

@@ -1,4 +1,4 @@
-use Rattle.std.proofs.Common.{◌≡◌, ◌∙◌, ◌+◌, refl, sym, ap, drop, [], ◌∷◌}
+use Rattle.std.proofs.Common.{◌∙◌, ◌+◌, sym, ap, drop, ◌∷◌}
 use Rattle.std.specs.Prelude.{map, reverse}
 use Rattle.visible_names.specs.Names.{Names}
 use Rattle.graph_emit.specs.Functions.{bound}

@@ -1,4 +1,4 @@
-use Rattle.std.proofs.Common.{◌≡◌, ◌∙◌, ◌++◌, [], sym, ap, subst, List}
+use Rattle.std.proofs.Common.{◌≡◌, ◌∙◌, ◌++◌, [], sym, ap, subst}
 use Rattle.std.specs.Prelude.{map}
 use Rattle.emit_list.specs.Vertices.{Listed, IsListed}
 use Rattle.graph_emit.specs.declared.emitter.Spot.{Spot}

@@ -1,10 +1,9 @@
-use Rattle.std.proofs.Common.{◌≡◌, ◌∙◌, ap, sym, refl, subst, length, List, [], None, Some, rules, arith}
+use Rattle.std.proofs.Common.{◌∙◌, ap, sym, [], Some}
 use Rattle.std.specs.Prelude.{map}
 use Rattle.c_tree.specs.declared.tree.Stmt.TheVariants as stmt
 use Rattle.graph_emit.specs.Settings.{seen}
-use Rattle.graph_emit.specs.State.{Walk, ◌⟫◌, done, opened, scoped, flow}
 use Rattle.graph_emit.specs.Walk.{vars_walk, in_order, stmt_walk}
-use Rattle.graph_emit.proofs.Steps.{starts, starts_by, goes_as, goes_by, stops_by, ends, ends_done}
+use Rattle.graph_emit.proofs.Steps.{starts_by, goes_as, goes_by, stops_by, ends, ends_done}
 use Rattle.graph_emit.proofs.Loops.{rest_at}
 use Rattle.graph_emit.proofs.Scopes.{scope_ends, scope_stops, scope_room}
 use Rattle.graph_emit.proofs.Layers.{stmt_declared, stmt_assign, stmt_call, stmt_block, else_walk, stmt_empty, stmt_if, stmt_while, stmt_return}

@@ -1,6 +1,5 @@
-use Rattle.std.proofs.Common.{◌≡◌, ◌∙◌}
+use Rattle.std.proofs.Common.{◌∙◌}
 use Rattle.std.specs.Prelude.{map, reverse}
-use Rattle.graph_emit.specs.State.{opened}
 use Rattle.graph_emit.specs.Functions.{bound}
 use Rattle.graph_emit.proofs.Scopes.{scope_ends, scope_stops, scope_room}
 use Rattle.graph_emit.proofs.Bodies.{body_opened}

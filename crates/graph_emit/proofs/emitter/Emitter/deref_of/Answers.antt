@@ -1,4 +1,4 @@
-use Rattle.std.proofs.Common.{◌≡◌, ◌<◌, ◌≤◌, ◌∙◌, [], ◌∷◌, ◌++◌, length, ap, inr, sym, subst, refl, arith, List, None, Some, Err}
+use Rattle.std.proofs.Common.{◌≡◌, ◌<◌, ◌≤◌, ◌∙◌, [], ◌∷◌, ◌++◌, length, ap, inr, sym, subst, arith, None, Some, Err}
 use Rattle.std.specs.Prelude.{map, nat_eq}
 use Rattle.std.specs.Map.{update}
 use Rattle.emit_list.specs.declared.vertex.VertexForm.TheVariants as form
