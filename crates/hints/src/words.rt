@@ -417,7 +417,9 @@ fn say_bare(line: &mut Line, words: &WordList) -> bool
 }
 
 fn say_emit(line: &mut Line) {
-    line.text("emit takes a kind, alias or null, and a C file, as in: graspan STORE emit alias x.c");
+    line.text(
+        "emit takes a kind, alias or null, and a C file, as in: graspan STORE emit alias x.c",
+    );
     say_help(line);
 }
 
