@@ -93,3 +93,127 @@ fn a_write_that_fails_leaves_a_front_of_the_graph(rt: HostRuntime) -> Result<(),
     assert!(rt; PRINTED.starts_with(out.bytes()));
     Ok(())
 }
+
+// One program for each form that makes a vertex or an edge, worked out by hand from docs/DEFINITIONS.md.
+#[test]
+fn each_form_makes_its_vertices_and_edges(rt: HostRuntime) -> Result<(), Fail> {
+    let alloc = rt.alloc();
+    for (text, printed) in [
+        (
+            b"int *p; int *q; void f() { p = q; }".as_slice(),
+            b"# 0 p\n# 1 q\n1 0 a\n0 1 -a\n".as_slice(),
+        ),
+        // what an address points to is its variable
+        (
+            b"int x; int y; void f() { y = *(&x); }",
+            b"# 0 x\n# 1 y\n# 2 &x\n2 0 d\n0 2 -d\n0 1 a\n1 0 -a\n",
+        ),
+        // and the address of what a pointer points to is the pointer
+        (
+            b"int *p; int *q; void f() { q = &*p; }",
+            b"# 0 p\n# 1 q\n# 2 *p\n0 2 d\n2 0 -d\n0 1 a\n1 0 -a\n",
+        ),
+        // each is made once for a vertex, and an edge that is made twice stands twice
+        (
+            b"int *p; void f() { *p = *p; }",
+            b"# 0 p\n# 1 *p\n0 1 d\n1 0 -d\n1 1 a\n1 1 -a\n",
+        ),
+        (
+            b"int x; int *p; void f() { p = &x; p = &x; }",
+            b"# 0 x\n# 1 p\n# 2 &x\n2 0 d\n0 2 -d\n2 1 a\n1 2 -a\n2 1 a\n1 2 -a\n",
+        ),
+        (
+            b"int **p; void f() { **p = 1; }",
+            b"# 0 p\n# 1 *p\n# 2 **p\n# 3 number\n0 1 d\n1 0 -d\n1 2 d\n2 1 -d\n3 2 a\n2 3 -a\n",
+        ),
+        // a number is a new vertex each time
+        (
+            b"int x = 1; void f() { x = ((1)); }",
+            b"# 0 x\n# 1 number\n# 2 number\n1 0 a\n0 1 -a\n2 0 a\n0 2 -a\n",
+        ),
+        (
+            b"int x; void f() { x = x + 1 < 2; }",
+            b"# 0 x\n# 1 number\n# 2 op\n# 3 number\n# 4 op\n4 0 a\n0 4 -a\n",
+        ),
+        // parameters and results of functions come first
+        (
+            b"int x; int g(int n) { return n; } void f() { x = g(2); }",
+            b"# 0 n\n# 1 return g\n# 2 x\n# 3 number\n# 4 call g\n0 1 a\n1 0 -a\n3 0 a\n0 3 -a\n1 4 a\n4 1 -a\n4 2 a\n2 4 -a\n",
+        ),
+        (
+            b"void f() { h(1); } void h(int n) { }",
+            b"# 0 n\n# 1 number\n1 0 a\n0 1 -a\n",
+        ),
+        (
+            b"int *p = malloc(4);",
+            b"# 0 p\n# 1 number\n# 2 malloc\n2 0 a\n0 2 -a\n",
+        ),
+        (b"void *f() { return; }", b"# 0 return f\n"),
+        (b"void *f() { return (NULL); }", b"# 0 return f\n# 1 NULL\n"),
+        (
+            b"int x; void f() { if (x == 1) x = 2; else while (x) ; }",
+            b"# 0 x\n# 1 number\n# 2 op\n# 3 number\n3 0 a\n0 3 -a\n",
+        ),
+        // an inner name hides an outer one to the end of its block
+        (
+            b"int x; void f() { int x; { int x; x = 1; } x = 2; }",
+            b"# 0 x\n# 1 x\n# 2 x\n# 3 number\n# 4 number\n3 2 a\n2 3 -a\n4 1 a\n1 4 -a\n",
+        ),
+    ] {
+        let mut disk = MemDisk::new(alloc)?;
+        let (out, ended) = says(alloc, &mut disk, text, b"", &["emit", "alias", "e"])?;
+        assert_eq!(rt; out.bytes(), printed);
+        assert_eq!(rt; ended, 0);
+    }
+    Ok(())
+}
+
+// Each on the line of the word that is refused, and in the order of the walk.
+#[test]
+fn a_program_is_refused_where_its_walk_comes_first(rt: HostRuntime) -> Result<(), Fail> {
+    let alloc = rt.alloc();
+    for (text, printed) in [
+        (
+            b"void f() { }\nvoid f() { }".as_slice(),
+            b"fault input source 2 Repeated\n".as_slice(),
+        ),
+        (
+            b"void f(int a,\nint a) { }",
+            b"fault input source 2 Repeated\n",
+        ),
+        (
+            b"void f(int a) {\n{ int a; }\nint a; }",
+            b"fault input source 3 Repeated\n",
+        ),
+        (b"int x =\ny;\nint y;", b"fault input source 2 Undeclared\n"),
+        (
+            b"void f() {\n{ int y; }\ny = 1; }",
+            b"fault input source 3 Undeclared\n",
+        ),
+        (b"void f() {\ng(); }", b"fault input source 2 Undeclared\n"),
+        // the arguments are counted before they are walked
+        (
+            b"void g() { }\nvoid f() {\ng(\ny); }",
+            b"fault input source 3 WrongArguments\n",
+        ),
+        // a call without a value is refused behind its arguments, and a return before its value
+        (
+            b"void g(int a) { }\nint x =\ng(\ny);",
+            b"fault input source 4 Undeclared\n",
+        ),
+        (
+            b"int y; void g(int a) { }\nint x =\ng(\ny);",
+            b"fault input source 3 NoValue\n",
+        ),
+        (
+            b"void f() {\nreturn\ny; }",
+            b"fault input source 2 NoValue\n",
+        ),
+    ] {
+        let mut disk = MemDisk::new(alloc)?;
+        let (out, ended) = says(alloc, &mut disk, text, b"", &["emit", "null", "e"])?;
+        assert_eq!(rt; out.bytes(), printed);
+        assert_eq!(rt; ended, 2);
+    }
+    Ok(())
+}
