@@ -1,7 +1,7 @@
 """The command emit: random programs of the C subset beside a plain walk of their trees, and bad inputs by hand.
 
 Each program is made as a tree and printed with random blanks and comments. The walk here shares no code with the
-program: it goes by the table of vertices in docs/DEFINITIONS.md. GRASPAN_SEED names another first program.
+program: it goes by the table of docs/FORMATS.md. GRASPAN_SEED names another first program.
 """
 import os
 import random
