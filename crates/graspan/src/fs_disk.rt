@@ -85,21 +85,23 @@ fn if_there<T: Drop>(opened: io::Result<T>) -> io::Result<Option<T>> {
 impl<'a, R: Files + AllocGlobal + Clock + Eprint> FsDisk<'a, R> {
     /// The disk in this folder, which is made where it isn't there.
     pub(crate) fn new(rt: &'a R, path: &str, progress: &'a Progress<'a, R>) -> Self {
-        let mut reason = Reason::none();
-        let folder = match make_folder(rt, path) {
-            Ok(folder) => Some(folder),
-            Err(e) => {
-                reason.note(e.kind());
-                None
-            }
-        };
+        let mut disk = Self::without_folder(rt, progress);
+        match make_folder(rt, path) {
+            Ok(folder) => disk.folder = Some(folder),
+            Err(e) => disk.reason.note(e.kind()),
+        }
+        disk
+    }
+
+    /// The disk of a command that leaves its folder alone: each call fails.
+    pub(crate) fn without_folder(rt: &'a R, progress: &'a Progress<'a, R>) -> Self {
         FsDisk {
             rt,
-            folder,
+            folder: None,
             last: None,
             unsynced: [true; FILES],
             faults: 0,
-            reason,
+            reason: Reason::none(),
             progress,
         }
     }

@@ -17,6 +17,7 @@ mod tests;
 mod words;
 
 use clear_sink::ClearSink;
+use command_words::{Command, WordsFault, read_command};
 use fs_disk::FsDisk;
 use fs_inputs::FsInputs;
 use graspan_top::{Status, graspan};
@@ -47,6 +48,20 @@ fn refuse<O: Sink>(out: &mut O, line: &str, status: Status) -> Status {
     status
 }
 
+/// The disk of a command. Where it asks for no store, or the words have no reading, no folder is made.
+fn disk_of<'a, R: Files + AllocGlobal + Clock + Eprint>(
+    rt: &'a R,
+    folder: &str,
+    words: &WordList,
+    progress: &'a Progress<'a, R>,
+) -> FsDisk<'a, R> {
+    match read_command(rt.alloc(), words) {
+        Ok(Command::Emit { .. }) => FsDisk::without_folder(rt, progress),
+        Err(WordsFault::Words) => FsDisk::without_folder(rt, progress),
+        _ => FsDisk::new(rt, folder, progress),
+    }
+}
+
 /// Carries out a command on the store in a folder, and tells a person what it ended with.
 fn carry_out<R: Files + AllocGlobal + Clock + Eprint, O: Sink>(
     rt: &R,
@@ -56,7 +71,7 @@ fn carry_out<R: Files + AllocGlobal + Clock + Eprint, O: Sink>(
     out: &mut O,
 ) -> Status {
     let mut inputs = FsInputs::new(rt, progress);
-    let mut disk = FsDisk::new(rt, folder, progress);
+    let mut disk = disk_of(rt, folder, words, progress);
     let status = graspan(rt.alloc(), words, &mut inputs, &mut disk, out);
     progress.clear();
     tell(rt, folder, words, &mut inputs, &disk, status);
