@@ -78,7 +78,8 @@ class Maker:
 
     def stmt(self, depth):
         pick = self.random
-        kind = pick.choice(['declared', 'assign', 'assign', 'assign', 'call', 'block', 'empty', 'if', 'while', 'return'])
+        kind = pick.choice(['declared', 'assign', 'assign', 'assign', 'call', 'block', 'empty', 'if', 'while',
+                            'return'])
         if depth == 0 and kind in ('block', 'if', 'while'):
             kind = 'assign'
         if kind == 'declared':
@@ -307,7 +308,8 @@ def tokens_of(items):
 
 def text_of(tokens, pick):
     """The tokens as a text with random blanks and comments, and the line of each."""
-    blanks = [b' ', b'\n', b'\t', b'\r\n', b'  ', b'/* int x; \n * / */', b'/**/', b'// else " \xff\n', b'/*/*/', b'//\n']
+    blanks = [b' ', b'\n', b'\t', b'\r\n', b'  ', b'/* int x; \n * / */', b'/**/', b'// else " \xff\n', b'/*/*/',
+              b'//\n']
     text, lines, line, last = b'', [], 1, ''
     for token in tokens:
         between = b''.join(pick.choice(blanks) for _ in range(pick.choice([0, 0, 1, 1, 2])))
