@@ -78,7 +78,8 @@ class Maker:
 
     def stmt(self, depth):
         pick = self.random
-        kind = pick.choice(['declared', 'assign', 'assign', 'assign', 'call', 'block', 'empty', 'if', 'while', 'return'])
+        kind = pick.choice(['declared', 'assign', 'assign', 'assign', 'call', 'block', 'empty', 'if', 'while',
+                            'return'])
         if depth == 0 and kind in ('block', 'if', 'while'):
             kind = 'assign'
         if kind == 'declared':
@@ -307,7 +308,8 @@ def tokens_of(items):
 
 def text_of(tokens, pick):
     """The tokens as a text with random blanks and comments, and the line of each."""
-    blanks = [b' ', b'\n', b'\t', b'\r\n', b'  ', b'/* int x; \n * / */', b'/**/', b'// else " \xff\n', b'/*/*/', b'//\n']
+    blanks = [b' ', b'\n', b'\t', b'\r\n', b'  ', b'/* int x; \n * / */', b'/**/', b'// else " \xff\n', b'/*/*/',
+              b'//\n']
     text, lines, line, last = b'', [], 1, ''
     for token in tokens:
         between = b''.join(pick.choice(blanks) for _ in range(pick.choice([0, 0, 1, 1, 2])))
@@ -565,6 +567,66 @@ class Programs(Emit):
             text, lines = text_of(tokens, pick)
             with self.subTest(seed=seed):
                 self.assertEqual(self.emit(text), (b'fault input source %d BadByte\n' % lines[place], 2))
+
+
+# A program, and its vertices and edges for the kinds alias and null, without the inverse of each edge.
+ROWS = [
+    ('int *p; void f() { *p = *p; }', ['p', '*p'], ['0 1 d', '1 1 a'], ['0 1 d', '1 1 a']),
+    ('int x; int y = *(&x);', ['x', 'y', '&x'], ['2 0 d', '0 1 a'], ['2 0 d', '0 1 a']),
+    ('int *p, *q = &*p;', ['p', 'q', '*p'], ['0 2 d', '0 1 a'], ['0 2 d', '0 1 a']),
+    ('int **p, x = **p;', ['p', 'x', '*p', '**p'], ['0 2 d', '2 3 d', '3 1 a'], ['0 2 d', '2 3 d', '3 1 a']),
+    ('int x = (1 + 2) < 3;', ['x', 'number', 'number', 'op', 'number', 'op'], ['5 0 a'], ['5 0 a']),
+    ('int x = 1 - 2 - 3;', ['x', 'number', 'number', 'op', 'number', 'op'], ['5 0 a'], ['5 0 a']),
+    ('int *x = malloc(1);', ['x', 'number', 'malloc'], ['2 0 a'], ['2 0 a']),
+    ('void f() { malloc(1); }', ['number', 'malloc'], [], []),
+    ('int *x = ((NULL));', ['x', 'NULL'], [], ['1 0 n']),
+    ('int *x; int y = x == NULL;', ['x', 'y', 'NULL', 'op'], ['3 1 a'], ['3 1 a']),
+    ('int *f(int *a) { return a; } int *x = f(NULL);', ['a', 'return f', 'x', 'NULL', 'call f'],
+     ['0 1 a', '1 4 a', '4 2 a'], ['0 1 a', '3 0 n', '1 4 a', '4 2 a']),
+    ('void g(int a) { } void f() { g(1); }', ['a', 'number'], ['1 0 a'], ['1 0 a']),
+    ('int f(int c) { if (c) c = 1; else while (c) return c; }', ['c', 'return f', 'number'],
+     ['2 0 a', '0 1 a'], ['2 0 a', '0 1 a']),
+    ('int x = x;', ['x'], ['0 0 a'], ['0 0 a']),
+    ('int x; void f(int x) { x = 1; { int x = 2; } }', ['x', 'x', 'number', 'x', 'number'], ['2 0 a', '4 3 a'],
+     ['2 0 a', '4 3 a']),
+    ('void f() { if (1) int y; y = 2; }', ['number', 'y', 'number'], ['2 1 a'], ['2 1 a']),
+    ('void f() { g(); } void g() { } int f;', ['f'], [], []),
+]
+
+# A program, and the kind and line of its refusal: where two could hold, the first one.
+REFUSED = [
+    ('void f() { x = 1; }\nint f() { }', 'Repeated', 2),
+    ('void f() { x = 1; } void g(int a,\nint a) { }', 'Repeated', 2),
+    ('void f(int a) {\nint a; }', 'Repeated', 2),
+    ('int x; void f() { int y,\n y; }', 'Repeated', 2),
+    ('void f() { { int y; }\ny = 2; }', 'Undeclared', 2),
+    ('void f() {\nx = y; }\nint x;', 'Undeclared', 2),
+    ('void f() {\ng(x); }', 'Undeclared', 2),
+    ('int x; void f() {\nx(); }', 'Undeclared', 2),
+    ('void f(int a) {\nf(x, 1); }', 'WrongArguments', 2),
+    ('void f(int a) { f(\nx); }', 'Undeclared', 2),
+    ('void f(int a) { int x =\nf(x); }', 'NoValue', 2),
+    ('void f(int a) { int x = f(\ny); }', 'Undeclared', 2),
+    ('void f() { *\nf() = x; }', 'NoValue', 2),
+    ('void f() { \nreturn\nx; }', 'NoValue', 2),
+]
+
+
+@needs_program
+class ByHand(Emit):
+    def test_graphs(self):
+        for text, names, *edges in ROWS:
+            for kind, wanted_edges in zip(('alias', 'null'), edges):
+                lines = ['# %d %s' % row for row in enumerate(names)]
+                for u, v, label in (edge.split() for edge in wanted_edges):
+                    lines += ['%s %s %s' % (u, v, label), '%s %s -%s' % (v, u, label)]
+                with self.subTest(text, kind=kind):
+                    self.assertEqual(self.emit(text.encode(), kind), (''.join(l + '\n' for l in lines).encode(), 0))
+
+    def test_refusals(self):
+        for text, kind, line in REFUSED:
+            with self.subTest(text):
+                self.assertEqual(self.emit(text.encode()), (b'fault input source %d %s\n' % (line, kind.encode()), 2))
 
 
 def nested(front, opening, inner, closing, back, times):
