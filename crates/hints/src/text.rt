@@ -134,7 +134,7 @@ fn say_other_kind(line: &mut Line, kind: InputKind) {
         InputKind::Undeclared => "a name is used that wasn't declared",
         InputKind::Repeated => "a name is declared a second time",
         InputKind::WrongArguments => "a call has too few arguments or too many",
-        InputKind::NoValue => "a function that gives no value is used for one",
+        InputKind::NoValue => "a function that gives no value is used for one, or returns one",
         InputKind::TooManyVertices => "there are more than 16777216 vertices",
         InputKind::BadNode => "the line is no node of a derivation",
         InputKind::BadStep => "the node doesn't follow from those before it",
