@@ -94,72 +94,74 @@ fn a_write_that_fails_leaves_a_front_of_the_graph(rt: HostRuntime) -> Result<(),
     Ok(())
 }
 
-// One program for each form that makes a vertex or an edge, worked out by hand from docs/DEFINITIONS.md.
+/// One program for each form that makes a vertex or an edge, and its graph, worked out by hand from docs/FORMATS.md.
+const FORMS: [(&[u8], &[u8]); 15] = [
+    (
+        b"int *p; int *q; void f() { p = q; }",
+        b"# 0 p\n# 1 q\n1 0 a\n0 1 -a\n",
+    ),
+    // what an address points to is its variable
+    (
+        b"int x; int y; void f() { y = *(&x); }",
+        b"# 0 x\n# 1 y\n# 2 &x\n2 0 d\n0 2 -d\n0 1 a\n1 0 -a\n",
+    ),
+    // and the address of what a pointer points to is the pointer
+    (
+        b"int *p; int *q; void f() { q = &*p; }",
+        b"# 0 p\n# 1 q\n# 2 *p\n0 2 d\n2 0 -d\n0 1 a\n1 0 -a\n",
+    ),
+    // each is made once for a vertex, and an edge that is made twice stands twice
+    (
+        b"int *p; void f() { *p = *p; }",
+        b"# 0 p\n# 1 *p\n0 1 d\n1 0 -d\n1 1 a\n1 1 -a\n",
+    ),
+    (
+        b"int x; int *p; void f() { p = &x; p = &x; }",
+        b"# 0 x\n# 1 p\n# 2 &x\n2 0 d\n0 2 -d\n2 1 a\n1 2 -a\n2 1 a\n1 2 -a\n",
+    ),
+    (
+        b"int **p; void f() { **p = 1; }",
+        b"# 0 p\n# 1 *p\n# 2 **p\n# 3 number\n0 1 d\n1 0 -d\n1 2 d\n2 1 -d\n3 2 a\n2 3 -a\n",
+    ),
+    // a number is a new vertex each time
+    (
+        b"int x = 1; void f() { x = ((1)); }",
+        b"# 0 x\n# 1 number\n# 2 number\n1 0 a\n0 1 -a\n2 0 a\n0 2 -a\n",
+    ),
+    (
+        b"int x; void f() { x = x + 1 < 2; }",
+        b"# 0 x\n# 1 number\n# 2 op\n# 3 number\n# 4 op\n4 0 a\n0 4 -a\n",
+    ),
+    // parameters and results of functions come first
+    (
+        b"int x; int g(int n) { return n; } void f() { x = g(2); }",
+        b"# 0 n\n# 1 return g\n# 2 x\n# 3 number\n# 4 call g\n0 1 a\n1 0 -a\n3 0 a\n0 3 -a\n1 4 a\n4 1 -a\n4 2 a\n2 4 -a\n",
+    ),
+    (
+        b"void f() { h(1); } void h(int n) { }",
+        b"# 0 n\n# 1 number\n1 0 a\n0 1 -a\n",
+    ),
+    (
+        b"int *p = malloc(4);",
+        b"# 0 p\n# 1 number\n# 2 malloc\n2 0 a\n0 2 -a\n",
+    ),
+    (b"void *f() { return; }", b"# 0 return f\n"),
+    (b"void *f() { return (NULL); }", b"# 0 return f\n# 1 NULL\n"),
+    (
+        b"int x; void f() { if (x == 1) x = 2; else while (x) ; }",
+        b"# 0 x\n# 1 number\n# 2 op\n# 3 number\n3 0 a\n0 3 -a\n",
+    ),
+    // an inner name hides an outer one to the end of its block
+    (
+        b"int x; void f() { int x; { int x; x = 1; } x = 2; }",
+        b"# 0 x\n# 1 x\n# 2 x\n# 3 number\n# 4 number\n3 2 a\n2 3 -a\n4 1 a\n1 4 -a\n",
+    ),
+];
+
 #[test]
 fn each_form_makes_its_vertices_and_edges(rt: HostRuntime) -> Result<(), Fail> {
     let alloc = rt.alloc();
-    for (text, printed) in [
-        (
-            b"int *p; int *q; void f() { p = q; }".as_slice(),
-            b"# 0 p\n# 1 q\n1 0 a\n0 1 -a\n".as_slice(),
-        ),
-        // what an address points to is its variable
-        (
-            b"int x; int y; void f() { y = *(&x); }",
-            b"# 0 x\n# 1 y\n# 2 &x\n2 0 d\n0 2 -d\n0 1 a\n1 0 -a\n",
-        ),
-        // and the address of what a pointer points to is the pointer
-        (
-            b"int *p; int *q; void f() { q = &*p; }",
-            b"# 0 p\n# 1 q\n# 2 *p\n0 2 d\n2 0 -d\n0 1 a\n1 0 -a\n",
-        ),
-        // each is made once for a vertex, and an edge that is made twice stands twice
-        (
-            b"int *p; void f() { *p = *p; }",
-            b"# 0 p\n# 1 *p\n0 1 d\n1 0 -d\n1 1 a\n1 1 -a\n",
-        ),
-        (
-            b"int x; int *p; void f() { p = &x; p = &x; }",
-            b"# 0 x\n# 1 p\n# 2 &x\n2 0 d\n0 2 -d\n2 1 a\n1 2 -a\n2 1 a\n1 2 -a\n",
-        ),
-        (
-            b"int **p; void f() { **p = 1; }",
-            b"# 0 p\n# 1 *p\n# 2 **p\n# 3 number\n0 1 d\n1 0 -d\n1 2 d\n2 1 -d\n3 2 a\n2 3 -a\n",
-        ),
-        // a number is a new vertex each time
-        (
-            b"int x = 1; void f() { x = ((1)); }",
-            b"# 0 x\n# 1 number\n# 2 number\n1 0 a\n0 1 -a\n2 0 a\n0 2 -a\n",
-        ),
-        (
-            b"int x; void f() { x = x + 1 < 2; }",
-            b"# 0 x\n# 1 number\n# 2 op\n# 3 number\n# 4 op\n4 0 a\n0 4 -a\n",
-        ),
-        // parameters and results of functions come first
-        (
-            b"int x; int g(int n) { return n; } void f() { x = g(2); }",
-            b"# 0 n\n# 1 return g\n# 2 x\n# 3 number\n# 4 call g\n0 1 a\n1 0 -a\n3 0 a\n0 3 -a\n1 4 a\n4 1 -a\n4 2 a\n2 4 -a\n",
-        ),
-        (
-            b"void f() { h(1); } void h(int n) { }",
-            b"# 0 n\n# 1 number\n1 0 a\n0 1 -a\n",
-        ),
-        (
-            b"int *p = malloc(4);",
-            b"# 0 p\n# 1 number\n# 2 malloc\n2 0 a\n0 2 -a\n",
-        ),
-        (b"void *f() { return; }", b"# 0 return f\n"),
-        (b"void *f() { return (NULL); }", b"# 0 return f\n# 1 NULL\n"),
-        (
-            b"int x; void f() { if (x == 1) x = 2; else while (x) ; }",
-            b"# 0 x\n# 1 number\n# 2 op\n# 3 number\n3 0 a\n0 3 -a\n",
-        ),
-        // an inner name hides an outer one to the end of its block
-        (
-            b"int x; void f() { int x; { int x; x = 1; } x = 2; }",
-            b"# 0 x\n# 1 x\n# 2 x\n# 3 number\n# 4 number\n3 2 a\n2 3 -a\n4 1 a\n1 4 -a\n",
-        ),
-    ] {
+    for (text, printed) in FORMS {
         let mut disk = MemDisk::new(alloc)?;
         let (out, ended) = says(alloc, &mut disk, text, b"", &["emit", "alias", "e"])?;
         assert_eq!(rt; out.bytes(), printed);
