@@ -16,7 +16,7 @@ use Rattle.faults.specs.declared.kinds.InputKind.TheVariants.{LineTooLong, TooLo
 use Rattle.io_edge.specs.Lines.{segments, line, lines, without_end}
 use Rattle.io_edge.specs.FirstFault.{Fault, fault_or, line_fault, with_line, first_fault}
 use Rattle.edge_text.specs.EdgesText.{edge_fault, ReadsEdges}
-use Rattle.edge_text.specs.declared.feed.TheConstants.{LONGEST_TEXT}
+use Rattle.graph_words.specs.declared.limits.TheConstants.{LONGEST_EDGES}
 
 keep_others : (x : List ℕ) (ys : List (List ℕ)) → All (λ y. x ≢ y) ys → filter (λ y. not (same_name x y)) ys ≡ ys
 keep_others x [] all = refl
@@ -120,18 +120,18 @@ fault_parts : (n : ℕ) (k : Option InputKind) (rest : Option Fault) → fault_o
 fault_parts n None rest h = (refl, h)
 fault_parts n (Some kind) rest h = absurd (cc)
 
-lines_again : (names table : List (List ℕ)) (n at : ℕ) (before : List (List (List ℕ))) (ss : List (List ℕ)) → length (distinct (table ++ flat_map third (before ++ said (map line ss)))) ≤ 1000 → first_fault LONGEST_TEXT (edge_fault names) n at before ss ≡ None → first_fault LONGEST_TEXT (edge_fault table) n at before ss ≡ None
+lines_again : (names table : List (List ℕ)) (n at : ℕ) (before : List (List (List ℕ))) (ss : List (List ℕ)) → length (distinct (table ++ flat_map third (before ++ said (map line ss)))) ≤ 1000 → first_fault LONGEST_EDGES (edge_fault names) n at before ss ≡ None → first_fault LONGEST_EDGES (edge_fault table) n at before ss ≡ None
 lines_again names table n at before [] few h = refl
 lines_again names table n at before (s ∷ ss) few h =
-    let parts = fault_parts n (line_fault LONGEST_TEXT (edge_fault names) before (at + length s) s) (first_fault LONGEST_TEXT (edge_fault names) (n + 1) (at + length s) (with_line before s) ss) h in
+    let parts = fault_parts n (line_fault LONGEST_EDGES (edge_fault names) before (at + length s) s) (first_fault LONGEST_EDGES (edge_fault names) (n + 1) (at + length s) (with_line before s) ss) h in
     let all : flat_map third (before ++ said (map line (s ∷ ss))) ≡ flat_map third (with_line before s) ++ flat_map third (said (map line ss)) = ap (flat_map third) (said_cons (map line ss) (line s) before) ∙ flat_map-append third (with_line before s) (said (map line ss)) in
     let size : length (distinct (table ++ (flat_map third (with_line before s) ++ flat_map third (said (map line ss))))) ≤ 1000 = omega (arith, few, ap (λ (l : List (List ℕ)). length (distinct (table ++ l))) all) in
     let here = fewer table (flat_map third (with_line before s)) (flat_map third (said (map line ss))) size in
     let rest_few : length (distinct (table ++ flat_map third (with_line before s ++ said (map line ss)))) ≤ 1000 = omega (arith, size, ap (λ (l : List (List ℕ)). length (distinct (table ++ l))) (flat_map-append third (with_line before s) (said (map line ss)))) in
     let ws = words (line s) in
-    let this = line_tests (nat_lt 4096 (length (without_end 10 s))) (nat_lt LONGEST_TEXT (at + length s)) (is_skipped ws) (edge_fault names before ws) (edge_fault table before ws) parts.0
+    let this = line_tests (nat_lt 4096 (length (without_end 10 s))) (nat_lt LONGEST_EDGES (at + length s)) (is_skipped ws) (edge_fault names before ws) (edge_fault table before ws) parts.0
     (λ kept none. edge_again names table before ws none (subst (λ (t : Bool). length (distinct (table ++ flat_map third (cond t before (before ++ ws ∷ [])))) ≤ 1000) kept here)) in
-    ap (λ k. fault_or n k (first_fault LONGEST_TEXT (edge_fault table) (n + 1) (at + length s) (with_line before s) ss)) this
+    ap (λ k. fault_or n k (first_fault LONGEST_EDGES (edge_fault table) (n + 1) (at + length s) (with_line before s) ss)) this
     ∙ lines_again names table (n + 1) (at + length s) (with_line before s) ss rest_few parts.1
 
 -- a text reads the same behind the names that it was found to have

@@ -10,7 +10,7 @@ use Rattle.edge_text.specs.declared.edges.EdgesFault.TheVariants as faults
 use Rattle.faults.specs.declared.line_fault.LineFault.{LineFault}
 use Rattle.faults.specs.declared.line_fault.LineFault.TheVariants.{Kind, NoMemory}
 use Rattle.edge_text.specs.EdgesText.{edge_fault, edges_fault, SaysEdges}
-use Rattle.edge_text.specs.declared.feed.TheConstants.{LONGEST_TEXT}
+use Rattle.graph_words.specs.declared.limits.TheConstants.{LONGEST_EDGES}
 
 -- Of a text that goes on behind start bytes, number lines are read, and place bytes in all, with those before it.
 -- Those of a line that has begun are held, and rest is not read yet.
@@ -22,7 +22,7 @@ pub record IsFeeding (start : ℕ) (names : List (List ℕ)) (text held rest : L
   pub place_is : at + length held ≡ place
   pub lines_are : (later : List ℕ) → said (lines (text ++ later)) ≡ before ++ said (lines (held ++ (rest ++ later)))
   pub fault_is : (later : List ℕ) → edges_fault start names (text ++ later)
-      ≡ first_fault LONGEST_TEXT (edge_fault names) (number + 1) at before (segments (held ++ (rest ++ later)))
+      ≡ first_fault LONGEST_EDGES (edge_fault names) (number + 1) at before (segments (held ++ (rest ++ later)))
 
 -- An edge reader: the bytes of the line that has begun, how many lines are read, how many bytes with those before
 -- the text, the names by their numbers, and whether more may come.
@@ -43,7 +43,7 @@ pub record HasRoom (phase : Phase) (held : List ℕ) (number place : ℕ) : Type
   pub is_open : phase ≡ Open
   pub fewer : number ≤ place
   pub short : length held ≤ 4096
-  pub room : place ≤ LONGEST_TEXT + 1 + length held
+  pub room : place ≤ LONGEST_EDGES + 1 + length held
 
 -- a vertex has a number below 16,777,216, and the label one in a table with so many names
 pub record IsNumbered (names : ℕ) (e : Edge) : Type 0 where

@@ -7,7 +7,7 @@ use Rattle.std.proofs.lemmas.Bool.{false≢true}
 use Rattle.std.proofs.lemmas.Bool.Decides.{nat_tests}
 use Rattle.std.proofs.lemmas.List.Elements.{All-nil, All-cons, All-head, All-tail}
 use Rattle.graph_words.specs.Text.{IsDigit, IsLabel, IsVertexNumber, is_label_word, is_vertex_word}
-use Rattle.graph_words.specs.declared.text.TheConstants.{MOST_LABEL_BYTES}
+use Rattle.graph_words.specs.declared.limits.TheConstants.{MOST_LABEL_BYTES}
 
 and_true : (a b : Bool) → a ≡ true → b ≡ true → (a && b) ≡ true
 and_true true b e f = f

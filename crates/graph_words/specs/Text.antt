@@ -3,7 +3,7 @@ use Rattle.std.specs.Prelude.{◌∷◌, ◌++◌, length, All, filter, if◌the
 use Rattle.std.specs.List.{slice_split, flat_map, list_any, list_all, position_or_len}
 use Rattle.std.specs.Str.Parse.{digits_value}
 use lib.Pointwise.{pointwise}
-use Rattle.graph_words.specs.declared.text.TheConstants.{MOST_LABEL_BYTES}
+use Rattle.graph_words.specs.declared.limits.TheConstants.{MOST_LABEL_BYTES}
 
 -- a space or a tab
 abbrev pub is_blank : ℕ → Bool

@@ -2,8 +2,7 @@ ghost use Rattle.std.specs.Prelude.{◌≡◌, ◌↔◌, ℕ, List, ◌++◌, I
 ghost use Rattle.std.specs.List.{list_all};
 ghost use Rattle.graph_words.specs.Text.{IsLabel, distinct, with_names, is_label_word};
 
-/// How many bytes a label's name has at most.
-pub const MOST_LABEL_BYTES: usize = 64;
+use crate::limits::MOST_LABEL_BYTES;
 
 /// Whether the bytes are a label's name: 1 to `MOST_LABEL_BYTES` bytes, each from 0x21 to 0x7E.
 pub fn is_label(name: &[u8]) -> bool

@@ -6,11 +6,12 @@ ghost use Rattle.graspan_top.specs.Stages.{IsGrammarFile, grammar_causes};
 
 use crate::status::Status;
 use grammar_norm::{GrammarFault, read_grammar};
+use graph_words::LONGEST_GRAMMAR;
 use io_edge::{InputFile, Inputs, ReadFault, read_whole};
 use std::alloc::Global;
 
 /// A grammar file has at most 16,777,216 bytes. A line's bytes more show which fault a longer one has.
-const GRAMMAR_LIMIT: u64 = 16_777_216 + 4_096;
+const GRAMMAR_LIMIT: u64 = LONGEST_GRAMMAR as u64 + 4_096;
 
 /// The text of the grammar file, which has no fault.
 pub(crate) fn read_grammar_file<I: Inputs>(

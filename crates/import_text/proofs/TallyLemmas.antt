@@ -8,7 +8,7 @@ use Rattle.edge_text.specs.Feed.{EdgeFeed, IsFed, AddsEdges, IsNumbered}
 use Rattle.import_text.specs.Degrees.{Counted}
 use Rattle.import_text.specs.Tally.{Tallied, TakesPiece, TakesEnd}
 use Rattle.import_text.proofs.DegreeLemmas.{few_numbered}
-use Rattle.edge_text.specs.declared.feed.TheConstants.{LONGEST_TEXT}
+use Rattle.graph_words.specs.declared.limits.TheConstants.{LONGEST_EDGES}
 
 -- edges behind none are those that were added
 added_are : (most : ℕ) (none edges : List Edge) (table table' : List (List ℕ)) → none ≡ [] → (a : AddsEdges most none table edges table') → edges ≡ a.added
@@ -34,7 +34,7 @@ pub fed_on : (names : List (List ℕ)) (text : List ℕ) (r : EdgeFeed) (front n
 fed_on names text r front none empty f = subst (λ (es : List Edge). IsFed 0 names text r es) (sym (ap (λ es. front ++ es) empty ∙ append-nil front)) f
 
 pub takes_piece : (piece : List ℕ) (before after : Tallied) (none edges : List Edge) → none ≡ [] → AddsEdges (length piece) none before.reader.table edges after.reader.table → Counted edges before.degrees after.degrees
-    → after.reader.is_open ≡ true → after.reader.place ≡ before.reader.place + length piece → (before.reader.place ≤ LONGEST_TEXT + 4097 → after.reader.place ≤ LONGEST_TEXT + 4097)
+    → after.reader.is_open ≡ true → after.reader.place ≡ before.reader.place + length piece → (before.reader.place ≤ LONGEST_EDGES + 4097 → after.reader.place ≤ LONGEST_EDGES + 4097)
     → ((names : List (List ℕ)) (text : List ℕ) (front : List Edge) → IsFed 0 names text before.reader (front ++ none) → IsFed 0 names (text ++ piece) after.reader (front ++ edges)) → TakesPiece piece before after
 takes_piece piece before after none edges empty adds counted is_open place short fed =
     record {

@@ -5,7 +5,7 @@ use Rattle.normal_law.specs.Closure.{Normal}
 use Rattle.edge_text.specs.EdgesText.{ReadsEdges, vertex_count_of}
 use Rattle.edge_text.specs.Feed.{EdgeFeed, IsFed}
 use Rattle.import_text.specs.Given.{AddsJust, IsAboveIn}
-use Rattle.edge_text.specs.declared.feed.TheConstants.{LONGEST_TEXT}
+use Rattle.graph_words.specs.declared.limits.TheConstants.{LONGEST_EDGES}
 
 -- the reader, the interval, the given edges so far, and one more than the greatest vertex so far
 pub record Gathered : Type 0 where
@@ -28,7 +28,7 @@ pub record GathersPiece (n : Normal) (piece : List ℕ) (old new : Gathered) : T
   pub gathers : Gathers n found old new
   pub is_open : new.reader.is_open ≡ true
   pub place : new.reader.place ≡ old.reader.place + length piece
-  pub short : old.reader.place ≤ LONGEST_TEXT + 4097 → new.reader.place ≤ LONGEST_TEXT + 4097
+  pub short : old.reader.place ≤ LONGEST_EDGES + 4097 → new.reader.place ≤ LONGEST_EDGES + 4097
   pub names : length new.reader.table ≤ 1000
   pub fed : (names : List (List ℕ)) (text : List ℕ) (front : List Edge) → IsFed 0 names text old.reader front
       → IsFed 0 names (text ++ piece) new.reader (front ++ found)

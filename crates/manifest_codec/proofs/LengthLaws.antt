@@ -9,7 +9,7 @@ use Rattle.manifest_codec.specs.declared.types.Manifest.{Manifest}
 use Rattle.manifest_codec.specs.declared.types.PartEntry.{PartEntry}
 use Rattle.manifest_codec.specs.declared.types.Version.{Version}
 use Rattle.manifest_codec.specs.declared.types.Version.TheVariants.{First}
-use Rattle.graph_words.specs.declared.text.TheConstants.{MOST_LABEL_BYTES}
+use Rattle.graph_words.specs.declared.limits.TheConstants.{MOST_LABEL_BYTES}
 use Rattle.manifest_codec.specs.Spelling.{Fits, longest, spelling, head_of, newest_in, head_bytes, label_bytes, part_bytes, parts_bytes}
 use Rattle.manifest_codec.specs.FieldsRead.{body_at}
 use Rattle.manifest_codec.proofs.FieldLaws.{ok_is}

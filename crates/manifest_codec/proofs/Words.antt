@@ -24,7 +24,7 @@ use Rattle.pair_sched.specs.Marks.{joined_of}
 use Rattle.manifest_codec.proofs.Tables.{length-widths, length-limits, limit_at, entry_at, place_within, by_rows, all_from_places, places_from_all}
 use Rattle.manifest_codec.proofs.ListLaws.{cells_paired}
 use Rattle.manifest_codec.proofs.Kept.{LabelsFit, PartsFit, CellsFit, Kept}
-use Rattle.graph_words.specs.declared.text.TheConstants.{MOST_LABEL_BYTES}
+use Rattle.graph_words.specs.declared.limits.TheConstants.{MOST_LABEL_BYTES}
 
 at_most_yes : (limit n : ℕ) → n ≤ limit → at_most limit n ≡ true
 at_most_yes limit n le = ap not (le-ltb limit n le)

@@ -8,7 +8,7 @@ use Rattle.pair_sched.specs.Marks.{joined_of, newest_of}
 use Rattle.manifest_codec.specs.declared.types.PartEntry.{PartEntry}
 use Rattle.manifest_codec.specs.declared.types.Version.{Version}
 use Rattle.manifest_codec.specs.declared.types.Version.TheVariants.{First}
-use Rattle.graph_words.specs.declared.text.TheConstants.{MOST_LABEL_BYTES}
+use Rattle.graph_words.specs.declared.limits.TheConstants.{MOST_LABEL_BYTES}
 use Rattle.manifest_codec.specs.declared.types.Head.{Head}
 use Rattle.manifest_codec.specs.declared.types.Manifest.{Manifest}
 use Rattle.manifest_codec.specs.Rules.{widths, magic_of}

@@ -10,6 +10,7 @@ use crate::format::{FIRST_MAGIC, LABELS_PLACE};
 use crate::types::{Broken, FieldError, Head, Version};
 use byteorder::{ByteOrder, LittleEndian};
 use disk_model::FormKind;
+use graph_words::{LONGEST_EDGES, LONGEST_GRAMMAR, MOST_VERTICES};
 
 /// Where a version has the number of labels, in bytes from the gate.
 pub fn labels_place(version: Version) -> u64
@@ -89,15 +90,15 @@ pub(crate) fn head_of(bytes: &[u8]) -> Result<(Head, &[u8]), FieldError>
         return Err(broken_at(at_round, FormKind::BadNumber));
     }
     let (vertices, at_grammar) = u32_at(at_vertices)?;
-    if vertices > 16_777_216 {
+    if vertices as usize > MOST_VERTICES {
         return Err(broken_at(at_vertices, FormKind::BadNumber));
     }
     let (grammar_len, at_edges) = u64_at(at_grammar)?;
-    if grammar_len > 16_777_216 {
+    if grammar_len > LONGEST_GRAMMAR as u64 {
         return Err(broken_at(at_grammar, FormKind::BadNumber));
     }
     let (edges_len, rest) = u64_at(at_edges)?;
-    if edges_len > 1_099_511_627_776 {
+    if edges_len > LONGEST_EDGES {
         return Err(broken_at(at_edges, FormKind::BadNumber));
     }
     let head = Head {

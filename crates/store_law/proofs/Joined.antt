@@ -13,7 +13,7 @@ use Rattle.io_edge.specs.Lines.{is_line_feed, segments, line, lines, without_end
 use Rattle.io_edge.specs.FirstFault.{Fault, fault_or, line_fault, with_line, first_fault}
 use Rattle.io_edge.proofs.SegmentLemmas.{segments-join}
 use Rattle.edge_text.specs.EdgesText.{edge_fault, edges_fault}
-use Rattle.edge_text.specs.declared.feed.TheConstants.{LONGEST_TEXT}
+use Rattle.graph_words.specs.declared.limits.TheConstants.{LONGEST_EDGES}
 use Rattle.store_law.specs.Texts.{AreGoodBehind, AreGoodInTurn, ended, joined_behind, joined_text, with_next}
 
 -- ---- a text with its line feed
@@ -134,22 +134,22 @@ joined_segments (b ∷ c ∷ bs) next = more_joined b c bs next (joined_segments
 
 abbrev Clean : List (List ℕ) → ℕ → List (List (List ℕ)) → List (List ℕ) → Type 0
 Clean names at before [] = Unit {0}
-Clean names at before (s ∷ ss) = (line_fault LONGEST_TEXT (edge_fault names) before (at + length s) s ≡ None) × Clean names (at + length s) (with_line before s) ss
+Clean names at before (s ∷ ss) = (line_fault LONGEST_EDGES (edge_fault names) before (at + length s) s ≡ None) × Clean names (at + length s) (with_line before s) ss
 
 parts_none : (n : ℕ) (k : Option InputKind) (rest : Option Fault) → fault_or n k rest ≡ None → (k ≡ None) × (rest ≡ None)
 parts_none n None rest h = (refl, h)
 parts_none n (Some kind) rest h = absurd (cc)
 
-clean : (names : List (List ℕ)) (n at : ℕ) (before : List (List (List ℕ))) (ss : List (List ℕ)) → first_fault LONGEST_TEXT (edge_fault names) n at before ss ≡ None → Clean names at before ss
+clean : (names : List (List ℕ)) (n at : ℕ) (before : List (List (List ℕ))) (ss : List (List ℕ)) → first_fault LONGEST_EDGES (edge_fault names) n at before ss ≡ None → Clean names at before ss
 clean names n at before [] none = tt
 clean names n at before (s ∷ ss) none =
-    let p = parts_none n (line_fault LONGEST_TEXT (edge_fault names) before (at + length s) s) (first_fault LONGEST_TEXT (edge_fault names) (n + 1) (at + length s) (with_line before s) ss) none in
+    let p = parts_none n (line_fault LONGEST_EDGES (edge_fault names) before (at + length s) s) (first_fault LONGEST_EDGES (edge_fault names) (n + 1) (at + length s) (with_line before s) ss) none in
     (p.0, clean names (n + 1) (at + length s) (with_line before s) ss p.1)
 
-unclean : (names : List (List ℕ)) (n at : ℕ) (before : List (List (List ℕ))) (ss : List (List ℕ)) → Clean names at before ss → first_fault LONGEST_TEXT (edge_fault names) n at before ss ≡ None
+unclean : (names : List (List ℕ)) (n at : ℕ) (before : List (List (List ℕ))) (ss : List (List ℕ)) → Clean names at before ss → first_fault LONGEST_EDGES (edge_fault names) n at before ss ≡ None
 unclean names n at before [] c = refl
 unclean names n at before (s ∷ ss) c =
-    ap (λ (k : Option InputKind). fault_or n k (first_fault LONGEST_TEXT (edge_fault names) (n + 1) (at + length s) (with_line before s) ss)) c.0
+    ap (λ (k : Option InputKind). fault_or n k (first_fault LONGEST_EDGES (edge_fault names) (n + 1) (at + length s) (with_line before s) ss)) c.0
     ∙ unclean names (n + 1) (at + length s) (with_line before s) ss c.1
 
 -- where segments end, and what their lines said
@@ -191,9 +191,9 @@ edge_moved names front before (a ∷ b ∷ c ∷ []) =
     (ap (λ (l : List (List ℕ)). names ++ l) (flat_map-append third front before) ∙ sym (append_assoc names (flat_map third front) (flat_map third before)))
 edge_moved names front before (a ∷ b ∷ c ∷ d ∷ ws) = refl
 
-line_moved : (names : List (List ℕ)) (front before : List (List (List ℕ))) (end : ℕ) (s : List ℕ) → line_fault LONGEST_TEXT (edge_fault names) (front ++ before) end s ≡ line_fault LONGEST_TEXT (edge_fault (names ++ flat_map third front)) before end s
+line_moved : (names : List (List ℕ)) (front before : List (List (List ℕ))) (end : ℕ) (s : List ℕ) → line_fault LONGEST_EDGES (edge_fault names) (front ++ before) end s ≡ line_fault LONGEST_EDGES (edge_fault (names ++ flat_map third front)) before end s
 line_moved names front before end s =
-    ap (λ (k : Option InputKind). cond (nat_lt 4096 (length (without_end 10 s))) (Some LineTooLong) (cond (nat_lt LONGEST_TEXT end) (Some TooLong) (cond (is_skipped (words (line s))) None k))) (edge_moved names front before (words (line s)))
+    ap (λ (k : Option InputKind). cond (nat_lt 4096 (length (without_end 10 s))) (Some LineTooLong) (cond (nat_lt LONGEST_EDGES end) (Some TooLong) (cond (is_skipped (words (line s))) None k))) (edge_moved names front before (words (line s)))
 
 with_moved : (front before : List (List (List ℕ))) (s : List ℕ) → with_line (front ++ before) s ≡ front ++ with_line before s
 with_moved front before s = go (is_skipped (words (line s))) refl
@@ -218,10 +218,10 @@ nearer true far far' skipped k near none = absurd (cc)
 nearer false true far' skipped k near none = absurd (cc)
 nearer false false far' skipped k near none = ap (λ (t : Bool). cond t (Some TooLong) (cond skipped None k)) near ∙ none
 
-within : (names : List (List ℕ)) (before : List (List (List ℕ))) (end : ℕ) (s : List ℕ) → line_fault LONGEST_TEXT (edge_fault names) before end s ≡ None → end ≤ LONGEST_TEXT
-within names before end s none = go (nat_lt 4096 (length (without_end 10 s))) (nat_lt LONGEST_TEXT end) refl none
+within : (names : List (List ℕ)) (before : List (List (List ℕ))) (end : ℕ) (s : List ℕ) → line_fault LONGEST_EDGES (edge_fault names) before end s ≡ None → end ≤ LONGEST_EDGES
+within names before end s none = go (nat_lt 4096 (length (without_end 10 s))) (nat_lt LONGEST_EDGES end) refl none
   where
-    go : (long far : Bool) → nat_lt LONGEST_TEXT end ≡ far → cond long (Some LineTooLong) (cond far (Some TooLong) (cond (is_skipped (words (line s))) None (edge_fault names before (words (line s))))) ≡ None → end ≤ LONGEST_TEXT
+    go : (long far : Bool) → nat_lt LONGEST_EDGES end ≡ far → cond long (Some LineTooLong) (cond far (Some TooLong) (cond (is_skipped (words (line s))) None (edge_fault names before (words (line s))))) ≡ None → end ≤ LONGEST_EDGES
     go true far e h = absurd (cc)
     go false true e h = absurd (cc)
     go false false e h = grind (arith, nat_tests, e)
@@ -229,18 +229,18 @@ within names before end s none = go (nat_lt 4096 (length (without_end 10 s))) (n
 -- the fault of a line, by its bytes before the line feed and its end
 abbrev fault_by : List (List ℕ) → List (List (List ℕ)) → ℕ → List ℕ → Option InputKind
 fault_by names before end bytes =
-    cond (nat_lt 4096 (length bytes)) (Some LineTooLong) (cond (nat_lt LONGEST_TEXT end) (Some TooLong) (cond (is_skipped (words (without_end 13 bytes))) None (edge_fault names before (words (without_end 13 bytes)))))
+    cond (nat_lt 4096 (length bytes)) (Some LineTooLong) (cond (nat_lt LONGEST_EDGES end) (Some TooLong) (cond (is_skipped (words (without_end 13 bytes))) None (edge_fault names before (words (without_end 13 bytes)))))
 
-same_but_end : (names : List (List ℕ)) (before : List (List (List ℕ))) (end end' : ℕ) (s : List ℕ) → end' ≤ LONGEST_TEXT → fault_by names before end (without_end 10 s) ≡ None → fault_by names before end' (without_end 10 s) ≡ None
+same_but_end : (names : List (List ℕ)) (before : List (List (List ℕ))) (end end' : ℕ) (s : List ℕ) → end' ≤ LONGEST_EDGES → fault_by names before end (without_end 10 s) ≡ None → fault_by names before end' (without_end 10 s) ≡ None
 same_but_end names before end end' s small none =
-    nearer (nat_lt 4096 (length (without_end 10 s))) (nat_lt LONGEST_TEXT end) (nat_lt LONGEST_TEXT end') (is_skipped (words (line s))) (edge_fault names before (words (line s))) (grind (arith, nat_tests, small)) none
+    nearer (nat_lt 4096 (length (without_end 10 s))) (nat_lt LONGEST_EDGES end) (nat_lt LONGEST_EDGES end') (is_skipped (words (line s))) (edge_fault names before (words (line s))) (grind (arith, nat_tests, small)) none
 
-without_feed : (names : List (List ℕ)) (before : List (List (List ℕ))) (at : ℕ) (s : List ℕ) → line_fault LONGEST_TEXT (edge_fault names) before (at + length (ended s)) (ended s) ≡ None → line_fault LONGEST_TEXT (edge_fault names) before (at + length s) s ≡ None
+without_feed : (names : List (List ℕ)) (before : List (List (List ℕ))) (at : ℕ) (s : List ℕ) → line_fault LONGEST_EDGES (edge_fault names) before (at + length (ended s)) (ended s) ≡ None → line_fault LONGEST_EDGES (edge_fault names) before (at + length s) s ≡ None
 without_feed names before at s none =
     let top = within names before (at + length (ended s)) (ended s) none in
     same_but_end names before (at + length (ended s)) (at + length s) s (omega (arith, top, ended_longer s)) (subst (λ (b : List ℕ). fault_by names before (at + length (ended s)) b ≡ None) (ended_bytes s) none)
 
-with_feed : (names : List (List ℕ)) (before : List (List (List ℕ))) (at : ℕ) (s : List ℕ) → at + length (ended s) ≤ LONGEST_TEXT → line_fault LONGEST_TEXT (edge_fault names) before (at + length s) s ≡ None → line_fault LONGEST_TEXT (edge_fault names) before (at + length (ended s)) (ended s) ≡ None
+with_feed : (names : List (List ℕ)) (before : List (List (List ℕ))) (at : ℕ) (s : List ℕ) → at + length (ended s) ≤ LONGEST_EDGES → line_fault LONGEST_EDGES (edge_fault names) before (at + length s) s ≡ None → line_fault LONGEST_EDGES (edge_fault names) before (at + length (ended s)) (ended s) ≡ None
 with_feed names before at s top none =
     subst (λ (b : List ℕ). fault_by names before (at + length (ended s)) b ≡ None) (sym (ended_bytes s)) (same_but_end names before (at + length s) (at + length (ended s)) s top none)
 
@@ -249,7 +249,7 @@ clean_unended names at before [] c = tt
 clean_unended names at before (s ∷ []) c = (without_feed names before at s c.0, tt)
 clean_unended names at before (s ∷ t ∷ ss) c = (c.0, clean_unended names (at + length s) (with_line before s) (t ∷ ss) c.1)
 
-clean_ended : (names : List (List ℕ)) (at : ℕ) (before : List (List (List ℕ))) (ss : List (List ℕ)) → ends at (end_last ss) ≤ LONGEST_TEXT → Clean names at before ss → Clean names at before (end_last ss)
+clean_ended : (names : List (List ℕ)) (at : ℕ) (before : List (List (List ℕ))) (ss : List (List ℕ)) → ends at (end_last ss) ≤ LONGEST_EDGES → Clean names at before ss → Clean names at before (end_last ss)
 clean_ended names at before [] top c = tt
 clean_ended names at before (s ∷ []) top c = (with_feed names before at s top c.0, tt)
 clean_ended names at before (s ∷ t ∷ ss) top c = (c.0, clean_ended names (at + length s) (with_line before s) (t ∷ ss) top c.1)
@@ -295,7 +295,7 @@ both_good names text (b ∷ bs) first last =
     let c : second names text ts = clean (names ++ flat_map third (said (lines text))) 1 (length (ended text)) [] ts last in
     let here : second names text ((n.byte ∷ n.bytes) ∷ n.others) = subst (λ (ss : List (List ℕ)). second names text ss) n.are c in
     let end = within (names ++ flat_map third (said (lines text))) [] (length (ended text) + length (n.byte ∷ n.bytes)) (n.byte ∷ n.bytes) here.0 in
-    let top : ends 0 (end_last (segments text)) ≤ LONGEST_TEXT = omega (arith, ended_end text, end) in
+    let top : ends 0 (end_last (segments text)) ≤ LONGEST_EDGES = omega (arith, ended_end text, end) in
     unclean names 1 0 [] (segments (ended text ++ b ∷ bs))
     (subst (λ (ss : List (List ℕ)). Clean names 0 [] ss) (sym (joined_segments text (b ∷ bs)))
     (clean_both names 0 [] (end_last (segments text)) ts (clean_ended names 0 [] (segments text) top (clean names 1 0 [] (segments text) first)) (second_to names text ts c)))

@@ -4,7 +4,7 @@ use Rattle.graph_words.specs.declared.types.Edge.{Edge}
 use Rattle.disk_model.specs.Crash.{LeavesOnly, From}
 use Rattle.disk_model.specs.OneFile.{OnlyFile}
 use Rattle.import_text.proofs.CopyLemmas.{IsCopying}
-use Rattle.edge_text.specs.declared.feed.TheConstants.{LONGEST_TEXT}
+use Rattle.graph_words.specs.declared.limits.TheConstants.{LONGEST_EDGES}
 use Rattle.import_text.proofs.copy.copy_pieces.Given as goal
 
 abbrev pub invariant-loop-n : goal.invariant-loop-n
@@ -12,7 +12,7 @@ invariant-loop-n g l =
     record {
       is_open : l.tally.reader.is_open ≡ true;
       place : l.tally.reader.place ≡ l.place;
-      short : l.place ≤ LONGEST_TEXT + 4097;
+      short : l.place ≤ LONGEST_EDGES + 4097;
       kept : g.I.Inputs.told l.inputs ≡ g.I.Inputs.told l.initial.inputs;
       count : (k : List ℕ) → g.I.Inputs.faults l.initial.inputs k ≤ g.I.Inputs.faults l.inputs k;
       later : g.D.Disk.faults l.initial.disk ≤ g.D.Disk.faults l.disk;

@@ -4,7 +4,7 @@ use Rattle.graph_words.specs.declared.types.Edge.{Edge}
 use Rattle.normal_law.specs.NormalForm.{normal_form}
 use Rattle.disk_model.specs.Looks.{Looks}
 use Rattle.import_text.proofs.ReadLemmas.{IsGathering}
-use Rattle.edge_text.specs.declared.feed.TheConstants.{LONGEST_TEXT}
+use Rattle.graph_words.specs.declared.limits.TheConstants.{LONGEST_EDGES}
 use Rattle.import_text.proofs.given_part.gather_pieces.Given as goal
 
 abbrev pub invariant-loop-n : goal.invariant-loop-n
@@ -12,7 +12,7 @@ invariant-loop-n g l =
     record {
       is_open : l.gathering.reader.is_open ≡ true;
       place : l.gathering.reader.place ≡ l.place;
-      short : l.place ≤ LONGEST_TEXT + 4097;
+      short : l.place ≤ LONGEST_EDGES + 4097;
       names : length l.gathering.reader.table ≤ 1000;
       later : g.D.Disk.faults l.initial.disk ≤ g.D.Disk.faults l.disk;
       looks : Looks g.D.Disk.seen g.D.Disk.may_leave g.D.Disk.moment g.D.Disk.left_since l.initial.disk l.disk;
