@@ -5,6 +5,7 @@ ghost use Rattle.graph_words.specs.declared.types.Born.{Born as ABorn};
 ghost use Rattle.closing_machine.specs.State.{part, target};
 ghost use Rattle.closing_machine.specs.Machine.{parent};
 ghost use Rattle.dest_map.specs.Table.{IsFilled, IsPartOf, counts_of, is_child, share, split_count};
+ghost use Rattle.dest_map.specs.Cut.{after_cut};
 ghost use Rattle.dest_map.specs.Counts.{AreShares, IsCountsOf, cut_ends};
 
 use std::alloc::{AllocError, Global};
@@ -17,6 +18,15 @@ use std::marker::Model;
 pub struct DestMap {
     size: usize,
     counts: Vec<u64>,
+}
+
+/// A partition that is cut in two, and what its low child has of its counts.
+#[derive(Clone, Copy)]
+struct Cut<'a> {
+    i: usize,
+    low_row: &'a [u64],
+    low_column: &'a [u64],
+    corner: [u64; 4],
 }
 
 impl Model for DestMap {
@@ -119,62 +129,52 @@ impl DestMap {
             → IsCountsOf (cut_ends ends i at) edges self.new) }
         ensures err { OnErr result (self.new ≡ self.old) }
     {
+        let cut = Cut {
+            i,
+            low_row,
+            low_column,
+            corner,
+        };
         let size = self.size.checked_add(1).ok_or(AllocError)?;
         let cells = square(size)?;
         let mut counts = Vec::with_capacity(self.counts.allocator().clone()?, cells)?;
         for a in 0..size {
-            self.push_row(&mut counts, i, low_row, low_column, &corner, a)?;
+            self.push_row(&mut counts, &cut, a)?;
         }
         self.counts = counts;
         self.size = size;
         Ok(())
     }
 
-    /// Pushes row `a` of the map in which partition `i` is cut in two.
-    fn push_row(
-        &self,
-        counts: &mut Vec<u64>,
-        i: usize,
-        low_row: &[u64],
-        low_column: &[u64],
-        corner: &[u64; 4],
-        a: usize,
-    ) -> Result<(), AllocError>
-        requires number { i < self.now.0 }
-        requires part { IsPartOf (counts_of self.now) self.now.0 i low_row.now low_column.now }
+    /// Pushes row `a` of the map after the cut.
+    fn push_row(&self, counts: &mut Vec<u64>, cut: &Cut<'_>, a: usize) -> Result<(), AllocError>
+        requires number { cut.now.i < self.now.0 }
+        requires part { IsPartOf (counts_of self.now) self.now.0 cut.now.i cut.now.low_row.now cut.now.low_column.now }
         requires a { a ≤ self.now.0 }
         requires room { self.now.0 + 1 < 2 ^ 64 }
-        requires before { IsFilled (split_count i low_row.now low_column.now corner.now (counts_of self.now)) (self.now.0 + 1) a 0 counts.old.items }
-        ensures { OnOk result (IsFilled (split_count i low_row.now low_column.now corner.now (counts_of self.now))
-            (self.now.0 + 1) (a + 1) 0 counts.new.items) }
+        requires before { IsFilled (after_cut cut.now (counts_of self.now)) (self.now.0 + 1) a 0 counts.old.items }
+        ensures { OnOk result (IsFilled (after_cut cut.now (counts_of self.now)) (self.now.0 + 1) (a + 1) 0 counts.new.items) }
     {
         for b in 0..self.size + 1 {
-            counts.push(self.split_count(i, low_row, low_column, corner, a, b))?;
+            counts.push(self.split_count(cut, a, b))?;
         }
         Ok(())
     }
 
-    /// The count of the partitions `a` and `b` after partition `i` is cut in two.
-    fn split_count(
-        &self,
-        i: usize,
-        low_row: &[u64],
-        low_column: &[u64],
-        corner: &[u64; 4],
-        a: usize,
-        b: usize,
-    ) -> u64
-        requires number { i < self.now.0 }
-        requires part { IsPartOf (counts_of self.now) self.now.0 i low_row.now low_column.now }
+    /// The count of the partitions `a` and `b` after the cut.
+    fn split_count(&self, cut: &Cut<'_>, a: usize, b: usize) -> u64
+        requires number { cut.now.i < self.now.0 }
+        requires part { IsPartOf (counts_of self.now) self.now.0 cut.now.i cut.now.low_row.now cut.now.low_column.now }
         requires a { a ≤ self.now.0 }
         requires b { b ≤ self.now.0 }
-        ensures { result ≡ split_count i low_row.now low_column.now corner.now (counts_of self.now) a b }
+        ensures { result ≡ after_cut cut.now (counts_of self.now) a b }
     {
+        let i = cut.i;
         let (from, into) = (parent_of(i, a), parent_of(i, b));
         match (is_child(i, a), is_child(i, b)) {
-            (true, true) => corner[2 * (a - i) + (b - i)],
-            (true, false) => share(i, a, low_row[into], self.count(i, into)),
-            (false, true) => share(i, b, low_column[from], self.count(from, i)),
+            (true, true) => cut.corner[2 * (a - i) + (b - i)],
+            (true, false) => share(i, a, cut.low_row[into], self.count(i, into)),
+            (false, true) => share(i, b, cut.low_column[from], self.count(from, i)),
             (false, false) => self.count(from, into),
         }
     }
