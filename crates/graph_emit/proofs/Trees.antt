@@ -26,7 +26,7 @@ use Rattle.graph_emit.specs.declared.fault.EmitKind.{EmitKind}
 use Rattle.graph_emit.specs.State.{Made, Walk, done, ◌⟫◌, refuse, fresh, join, pointed_to, addressed, plain, flow, variable, Target, Setting}
 use Rattle.graph_emit.specs.Walk.{CallWalk, OperandWalk, arg_flows, args_flow, given, goes_to, given_or, value_of, operate, operate_all, call_walk, place_walk, pointer_walk, unary_walk, added_walk, compared_walk, expr_walk, sum_walk}
 use Rattle.graph_emit.proofs.Forms.{has_within}
-use Rattle.graph_emit.proofs.Keeps.{IsVariable, Rules, Callable, CallGoes, variables_grown, callable_grown, Keeps, keeps_done, keeps_refused, keeps_then, keeps_weaker, Nothing, Inside, IsOf, IsPlace, place_inside, fresh_keeps, join_keeps, pointed_keeps, addressed_keeps, flow_keeps, variable_keeps}
+use Rattle.graph_emit.proofs.Keeps.{IsVariable, Rules, CallGoes, variables_grown, callable_grown, Keeps, keeps_done, keeps_refused, keeps_then, keeps_weaker, Nothing, Inside, IsOf, IsPlace, place_inside, fresh_keeps, join_keeps, pointed_keeps, addressed_keeps, flow_keeps, variable_keeps}
 use Rattle.graph_emit.proofs.Layers.{call_function, call_malloc, place_name, place_star, pointer_name, pointer_star, pointer_call, pointer_paren, unary_place, unary_address, unary_call, unary_number, unary_null, unary_paren, added_is, compared_is, sum_is, right_walk, expr_is}
 
 -- a value whose vertex is there
