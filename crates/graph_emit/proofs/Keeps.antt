@@ -1,9 +1,10 @@
--- What each step of a walk keeps: the rules of a graph, names that are of variables, and functions that can be called.
+-- What each step of a walk keeps: the rules of a graph, names that are of variables, functions that can be called, and
+-- vertices whose names are allowed.
 use Rattle.std.proofs.Common.{◌≡◌, ◌⊎◌, inl, inr, refl, sym, ap, ◌∙◌, subst, ℕ, ◌<◌, Bool, true, false, cond, List, [], ◌∷◌, ◌++◌, length, Option, Some, None, Result, Ok, Err, arith}
 use Rattle.std.specs.Prelude.{All, nat_lt, find, is_some}
 use Rattle.std.specs.Option.{option_map}
 use Rattle.std.specs.Str.{bytes_eq}
-use Rattle.std.proofs.lemmas.List.Elements.{All-cons, All-head, All-tail, All-append, All-weaker}
+use Rattle.std.proofs.lemmas.List.Elements.{All-cons, All-head, All-tail, All-append, All-push, All-weaker}
 use Rattle.std.proofs.lemmas.Bool.{eqb-true, ltb-true}
 use Rattle.faults.specs.declared.kinds.InputKind.{InputKind}
 use Rattle.c_tree.specs.declared.tree.Tok.{Tok}
@@ -39,11 +40,23 @@ pub record Callable (ms : List Made) (t : Target) : Type 0 where
 abbrev pub IsCallable : List Made → Known → Type 0
 IsCallable ms f = Callable ms f.target
 
-pub record Good (known : List Known) (s : State) : Type 0 where
+-- what is so along a walk: which names a vertex may have, none among them, and the functions that a call may go to,
+-- whose names are such
+pub record Rules : Type 1 where
+  pub Allowed : List ℕ → Type 0
+  pub empty : Allowed []
+  pub known : List Known
+  pub named : All (λ (f : Known). Allowed f.name) known
+
+abbrev pub IsNamed : Rules → Made → Type 0
+IsNamed rules m = rules.Allowed m.name
+
+pub record Good (rules : Rules) (s : State) : Type 0 where
   pub kept : Kept s.vertices s.edges
+  pub named : All (IsNamed rules) s.vertices
   pub inner : All (IsVariable s.vertices) s.inner
   pub outer : All (IsVariable s.vertices) s.outer
-  pub targets : All (IsCallable s.vertices) known
+  pub targets : All (IsCallable s.vertices) rules.known
 
 pub variables_grown : (ms ns : List Made) (names : List Bound) → Grows ms ns → All (IsVariable ms) names → All (IsVariable ns) names
 variables_grown ms ns names g = All-weaker (IsVariable ms) (IsVariable ns) (λ b h. g.has b.vertex form.Variable h) names
@@ -61,39 +74,45 @@ callables_grown ms ns known g = All-weaker (IsCallable ms) (IsCallable ns) (λ f
 abbrev pub grown : State → List Made → List EmitEdge → State
 grown s ms es = record { vertices = ms; edges = es; inner = s.inner; outer = s.outer }
 
-pub good_grown : (known : List Known) (s : State) (ms : List Made) (es : List EmitEdge) → Good known s → Kept ms es → Grows s.vertices ms → Good known (grown s ms es)
-good_grown known s ms es good k g = record {
+pub good_grown : (rules : Rules) (s : State) (ms : List Made) (es : List EmitEdge) → Good rules s → Kept ms es → All (IsNamed rules) ms → Grows s.vertices ms → Good rules (grown s ms es)
+good_grown rules s ms es good k names g = record {
   kept = k;
+  named = names;
   inner = variables_grown s.vertices ms s.inner g good.inner;
   outer = variables_grown s.vertices ms s.outer g good.outer;
-  targets = callables_grown s.vertices ms known g good.targets;
+  targets = callables_grown s.vertices ms rules.known g good.targets;
 }
+
+-- a call of a name goes there
+pub record CallGoes (rules : Rules) (name : List ℕ) (ms : List Made) (t : Target) : Type 0 where
+  pub callable : Callable ms t
+  pub allowed : rules.Allowed name
 
 -- ---- walks
 -- what a step left
-pub record Leaves {A : Type 0} (known : List Known) (Q : List Made → A → Type 0) (before : State) (a : A) (after : State) : Type 0 where
-  pub good : Good known after
+pub record Leaves {A : Type 0} (rules : Rules) (Q : List Made → A → Type 0) (before : State) (a : A) (after : State) : Type 0 where
+  pub good : Good rules after
   pub grows : Grows before.vertices after.vertices
   pub value : Q after.vertices a
 
 -- a step keeps the rules, where it begins behind these vertices, and gives a value of this kind
-pub record Keeps {A : Type 0} (known : List Known) (base : List Made) (Q : List Made → A → Type 0) (w : Walk A) : Type 0 where
-  pub leaves : (s : State) → Good known s → Grows base s.vertices → (a : A) (t : State) → w s ≡ Ok (t, a) → Leaves known Q s a t
+pub record Keeps {A : Type 0} (rules : Rules) (base : List Made) (Q : List Made → A → Type 0) (w : Walk A) : Type 0 where
+  pub leaves : (s : State) → Good rules s → Grows base s.vertices → (a : A) (t : State) → w s ≡ Ok (t, a) → Leaves rules Q s a t
 
-pub leaves_as : {A : Type 0} (known : List Known) (Q : List Made → A → Type 0) (s t u : State) (a b : A) → done a t ≡ Ok (u, b) → Leaves known Q s a t → Leaves known Q s b u
-leaves_as known Q s t u a b e l =
+pub leaves_as : {A : Type 0} (rules : Rules) (Q : List Made → A → Type 0) (s t u : State) (a b : A) → done a t ≡ Ok (u, b) → Leaves rules Q s a t → Leaves rules Q s b u
+leaves_as rules Q s t u a b e l =
     let both = pair_of (t, a) (u, b) e in
     let same : t ≡ u = ap (λ x. x.0) both in
     let value : a ≡ b = ap (λ x. x.1) both in
-    subst (λ t. Leaves known Q s b t) same (subst (λ a. Leaves known Q s a t) value l)
+    subst (λ t. Leaves rules Q s b t) same (subst (λ a. Leaves rules Q s a t) value l)
 
-pub keeps_done : {A : Type 0} (known : List Known) (base : List Made) (Q : List Made → A → Type 0) (a : A) → ((ms : List Made) → Grows base ms → Q ms a) → Keeps known base Q (done a)
-keeps_done known base Q a q = record {
-  leaves = λ s good g b t e. leaves_as known Q s s t a b e (record { good = good; grows = grows_none s.vertices; value = q s.vertices g });
+pub keeps_done : {A : Type 0} (rules : Rules) (base : List Made) (Q : List Made → A → Type 0) (a : A) → ((ms : List Made) → Grows base ms → Q ms a) → Keeps rules base Q (done a)
+keeps_done rules base Q a q = record {
+  leaves = λ s good g b t e. leaves_as rules Q s s t a b e (record { good = good; grows = grows_none s.vertices; value = q s.vertices g });
 }
 
-pub keeps_refused : {A : Type 0} (known : List Known) (base : List Made) (Q : List Made → A → Type 0) (tok : Tok) (why : InputKind) → Keeps known base Q (refuse tok why)
-keeps_refused known base Q tok why = record { leaves = λ s good g b t e. absurd (cc) }
+pub keeps_refused : {A : Type 0} (rules : Rules) (base : List Made) (Q : List Made → A → Type 0) (tok : Tok) (why : InputKind) → Keeps rules base Q (refuse tok why)
+keeps_refused rules base Q tok why = record { leaves = λ s good g b t e. absurd (cc) }
 
 -- a step that went well, and the one behind it
 pub record Halves {A B : Type 0} (r : Result (State × A) EmitFault) (next : A → Walk B) (t : State) (b : B) : Type 0 where
@@ -106,9 +125,9 @@ pub halves : {A B : Type 0} (r : Result (State × A) EmitFault) (next : A → Wa
 halves (Ok (s, a)) next t b e = record { at = s; value = a; first = refl; second = e }
 halves (Err f) next t b e = absurd (cc)
 
-pub keeps_then : {A B : Type 0} (known : List Known) (base : List Made) (Q : List Made → A → Type 0) (R : List Made → B → Type 0) (w : Walk A) (next : A → Walk B) → Keeps known base Q w → ((ms : List Made) (a : A) → Grows base ms → Q ms a → Keeps known ms R (next a)) → Keeps known base R (w ⟫ next)
+pub keeps_then : {A B : Type 0} (rules : Rules) (base : List Made) (Q : List Made → A → Type 0) (R : List Made → B → Type 0) (w : Walk A) (next : A → Walk B) → Keeps rules base Q w → ((ms : List Made) (a : A) → Grows base ms → Q ms a → Keeps rules ms R (next a)) → Keeps rules base R (w ⟫ next)
 unfolding ◌⟫◌
-keeps_then known base Q R w next k f = record {
+keeps_then rules base Q R w next k f = record {
   leaves = λ s good g b t e.
       let h = halves (w s) next t b e in
       let l = k.leaves s good g h.value h.at h.first in
@@ -117,8 +136,8 @@ keeps_then known base Q R w next k f = record {
       record { good = m.good; grows = grows_then s.vertices h.at.vertices t.vertices l.grows m.grows; value = m.value };
 }
 
-pub keeps_weaker : {A : Type 0} (known : List Known) (base : List Made) (Q R : List Made → A → Type 0) (w : Walk A) → Keeps known base Q w → ((ms : List Made) (a : A) → Grows base ms → Q ms a → R ms a) → Keeps known base R w
-keeps_weaker known base Q R w k f = record {
+pub keeps_weaker : {A : Type 0} (rules : Rules) (base : List Made) (Q R : List Made → A → Type 0) (w : Walk A) → Keeps rules base Q w → ((ms : List Made) (a : A) → Grows base ms → Q ms a → R ms a) → Keeps rules base R w
+keeps_weaker rules base Q R w k f = record {
   leaves = λ s good g a t e.
       let l = k.leaves s good g a t e in
       record { good = l.good; grows = l.grows; value = f t.vertices a (grows_then base s.vertices t.vertices g l.grows) l.value };
@@ -167,26 +186,26 @@ alone : {A : Type 0} (w : Walk A) (s : State) → (w ⟫ done) s ≡ w s
 unfolding ◌⟫◌
 alone w s = elim (w s) as (λ r. and_then r done ≡ r) [ Ok (t, a) ↦ refl | Err e ↦ refl ]
 
-pub fresh_keeps : (known : List Known) (base : List Made) (tok : Tok) (f : VertexForm) (name : List ℕ) → made_for f ≡ None → Keeps known base (IsOf f) (fresh tok f name)
-fresh_keeps known base tok f name plain = record {
+pub fresh_keeps : (rules : Rules) (base : List Made) (tok : Tok) (f : VertexForm) (name : List ℕ) → made_for f ≡ None → rules.Allowed name → Keeps rules base (IsOf f) (fresh tok f name)
+fresh_keeps rules base tok f name plain allowed = record {
   leaves = λ s good g a t e.
       let x : Made = record { form = f; name = name; token = tok.number } in
       let ms = s.vertices ++ x ∷ [] in
       let r = fresh_then s tok f name done t a (alone (fresh tok f name) s ∙ e) in
-      leaves_as known (IsOf f) s (grown s ms s.edges) t (length s.vertices) a r.rest (record {
-        good = good_grown known s ms s.edges good (kept_plain s.vertices s.edges x good.kept r.room plain) (grows_new s.vertices x);
+      leaves_as rules (IsOf f) s (grown s ms s.edges) t (length s.vertices) a r.rest (record {
+        good = good_grown rules s ms s.edges good (kept_plain s.vertices s.edges x good.kept r.room plain) (All-push (IsNamed rules) s.vertices x good.named allowed) (grows_new s.vertices x);
         grows = grows_new s.vertices x;
         value = has_new s.vertices x;
       });
 }
 
-pub join_keeps : (known : List Known) (base : List Made) (src : ℕ) (l : EmitLabel) (dst : ℕ) → src < length base → dst < length base → Keeps known base Nothing (join src l dst)
-join_keeps known base src l dst a b = record {
+pub join_keeps : (rules : Rules) (base : List Made) (src : ℕ) (l : EmitLabel) (dst : ℕ) → src < length base → dst < length base → Keeps rules base Nothing (join src l dst)
+join_keeps rules base src l dst a b = record {
   leaves = λ s good g u t e.
       let es = s.edges ++ both src l dst in
       let k = kept_joined s.vertices s.edges src dst l good.kept (omega (arith, g.longer)) (omega (arith, g.longer)) in
-      leaves_as known Nothing s (grown s s.vertices es) t tt u e (record {
-        good = good_grown known s s.vertices es good k (grows_none s.vertices);
+      leaves_as rules Nothing s (grown s s.vertices es) t tt u e (record {
+        good = good_grown rules s s.vertices es good k good.named (grows_none s.vertices);
         grows = grows_none s.vertices;
         value = tt;
       });
@@ -197,30 +216,30 @@ deref_true : (v : ℕ) (f : VertexForm) → is_deref_of v f ≡ true → f ≡ f
 deref_true v (form.Deref base) h = ap form.Deref (eqb-true base v h)
 deref_true v _ h = absurd (cc)
 
-deref_made : (known : List Known) (tok : Tok) (v : ℕ) (s : State) (o : Option ℕ) → place_of (is_deref_of v) s.vertices ≡ o → Good known s → v < length s.vertices → (a : ℕ) (t : State) → deref_or_new o tok v s ≡ Ok (t, a) → Leaves known (IsOf (form.Deref v)) s a t
+deref_made : (rules : Rules) (tok : Tok) (v : ℕ) (s : State) (o : Option ℕ) → place_of (is_deref_of v) s.vertices ≡ o → Good rules s → v < length s.vertices → (a : ℕ) (t : State) → deref_or_new o tok v s ≡ Ok (t, a) → Leaves rules (IsOf (form.Deref v)) s a t
 unfolding ◌⟫◌
-deref_made known tok v s (Some k) found good at a t e =
+deref_made rules tok v s (Some k) found good at a t e =
     let f = found_has (is_deref_of v) s.vertices k found in
-    leaves_as known (IsOf (form.Deref v)) s s t k a e (record {
+    leaves_as rules (IsOf (form.Deref v)) s s t k a e (record {
       good = good;
       grows = grows_none s.vertices;
       value = subst (λ f. Has s.vertices k f) (deref_true v f.0 f.1.1) f.1.0;
     })
-deref_made known tok v s None none good at a t e =
+deref_made rules tok v s None none good at a t e =
     let n = length s.vertices in
     let x : Made = deref v tok.number in
     let ms = s.vertices ++ x ∷ [] in
     let es = s.edges ++ both v label.D n in
     let r = fresh_then s tok (form.Deref v) [] (λ t. join v label.D t ⟫ λ _. done t) t a e in
-    leaves_as known (IsOf (form.Deref v)) s (grown s ms es) t n a r.rest (record {
-      good = good_grown known s ms es good (kept_deref s.vertices s.edges v tok.number good.kept r.room at none) (grows_new s.vertices x);
+    leaves_as rules (IsOf (form.Deref v)) s (grown s ms es) t n a r.rest (record {
+      good = good_grown rules s ms es good (kept_deref s.vertices s.edges v tok.number good.kept r.room at none) (All-push (IsNamed rules) s.vertices x good.named rules.empty) (grows_new s.vertices x);
       grows = grows_new s.vertices x;
       value = has_new s.vertices x;
     })
 
-pub deref_keeps : (known : List Known) (base : List Made) (tok : Tok) (v : ℕ) → v < length base → Keeps known base (IsOf (form.Deref v)) (deref_of tok v)
-deref_keeps known base tok v at = record {
-  leaves = λ s good g a t e. deref_made known tok v s (place_of (is_deref_of v) s.vertices) refl good (omega (arith, g.longer)) a t e;
+pub deref_keeps : (rules : Rules) (base : List Made) (tok : Tok) (v : ℕ) → v < length base → Keeps rules base (IsOf (form.Deref v)) (deref_of tok v)
+deref_keeps rules base tok v at = record {
+  leaves = λ s good g a t e. deref_made rules tok v s (place_of (is_deref_of v) s.vertices) refl good (omega (arith, g.longer)) a t e;
 }
 
 -- ---- addresses
@@ -228,77 +247,77 @@ address_true : (v : ℕ) (f : VertexForm) → is_address_of v f ≡ true → f �
 address_true v (form.Address base) h = ap form.Address (eqb-true base v h)
 address_true v _ h = absurd (cc)
 
-address_made : (known : List Known) (tok : Tok) (v : ℕ) (s : State) (o : Option ℕ) → place_of (is_address_of v) s.vertices ≡ o → Good known s → Has s.vertices v form.Variable → (a : ℕ) (t : State) → address_or_new o tok v s ≡ Ok (t, a) → Leaves known (IsOf (form.Address v)) s a t
+address_made : (rules : Rules) (tok : Tok) (v : ℕ) (s : State) (o : Option ℕ) → place_of (is_address_of v) s.vertices ≡ o → Good rules s → Has s.vertices v form.Variable → (a : ℕ) (t : State) → address_or_new o tok v s ≡ Ok (t, a) → Leaves rules (IsOf (form.Address v)) s a t
 unfolding ◌⟫◌
-address_made known tok v s (Some k) found good at a t e =
+address_made rules tok v s (Some k) found good at a t e =
     let f = found_has (is_address_of v) s.vertices k found in
-    leaves_as known (IsOf (form.Address v)) s s t k a e (record {
+    leaves_as rules (IsOf (form.Address v)) s s t k a e (record {
       good = good;
       grows = grows_none s.vertices;
       value = subst (λ f. Has s.vertices k f) (address_true v f.0 f.1.1) f.1.0;
     })
-address_made known tok v s None none good at a t e =
+address_made rules tok v s None none good at a t e =
     let n = length s.vertices in
     let x : Made = address v tok.number in
     let ms = s.vertices ++ x ∷ [] in
     let es = s.edges ++ both n label.D v in
     let r = fresh_then s tok (form.Address v) [] (λ t. join t label.D v ⟫ λ _. done t) t a e in
-    leaves_as known (IsOf (form.Address v)) s (grown s ms es) t n a r.rest (record {
-      good = good_grown known s ms es good (kept_address s.vertices s.edges v tok.number good.kept r.room at none) (grows_new s.vertices x);
+    leaves_as rules (IsOf (form.Address v)) s (grown s ms es) t n a r.rest (record {
+      good = good_grown rules s ms es good (kept_address s.vertices s.edges v tok.number good.kept r.room at none) (All-push (IsNamed rules) s.vertices x good.named rules.empty) (grows_new s.vertices x);
       grows = grows_new s.vertices x;
       value = has_new s.vertices x;
     })
 
-pub address_keeps : (known : List Known) (base : List Made) (tok : Tok) (v : ℕ) → Has base v form.Variable → Keeps known base (IsOf (form.Address v)) (address_of tok v)
-address_keeps known base tok v at = record {
-  leaves = λ s good g a t e. address_made known tok v s (place_of (is_address_of v) s.vertices) refl good (g.has v form.Variable at) a t e;
+pub address_keeps : (rules : Rules) (base : List Made) (tok : Tok) (v : ℕ) → Has base v form.Variable → Keeps rules base (IsOf (form.Address v)) (address_of tok v)
+address_keeps rules base tok v at = record {
+  leaves = λ s good g a t e. address_made rules tok v s (place_of (is_address_of v) s.vertices) refl good (g.has v form.Variable at) a t e;
 }
 
 -- ---- `*` and `&`
-deref_place : (known : List Known) (tok : Tok) (v : ℕ) (s : State) → Good known s → v < length s.vertices → (a : ℕ) (t : State) → deref_of tok v s ≡ Ok (t, a) → Leaves known IsPlace s a t
-deref_place known tok v s good at a t e =
-    let l = deref_made known tok v s (place_of (is_deref_of v) s.vertices) refl good at a t e in
+deref_place : (rules : Rules) (tok : Tok) (v : ℕ) (s : State) → Good rules s → v < length s.vertices → (a : ℕ) (t : State) → deref_of tok v s ≡ Ok (t, a) → Leaves rules IsPlace s a t
+deref_place rules tok v s good at a t e =
+    let l = deref_made rules tok v s (place_of (is_deref_of v) s.vertices) refl good at a t e in
     record { good = l.good; grows = l.grows; value = inr (v, l.value) }
 
-pointed_made : (known : List Known) (tok : Tok) (v : ℕ) (s : State) (o : Option VertexForm) → form_at s.vertices v ≡ o → Good known s → v < length s.vertices → (a : ℕ) (t : State) → pointed_by o tok v s ≡ Ok (t, a) → Leaves known IsPlace s a t
-pointed_made known tok v s (Some (form.Address w)) is good at a t e =
-    leaves_as known IsPlace s s t w a e (record { good = good; grows = grows_none s.vertices; value = inl (good.kept.of_variables v w is) })
-pointed_made known tok v s _ is good at a t e = deref_place known tok v s good at a t e
+pointed_made : (rules : Rules) (tok : Tok) (v : ℕ) (s : State) (o : Option VertexForm) → form_at s.vertices v ≡ o → Good rules s → v < length s.vertices → (a : ℕ) (t : State) → pointed_by o tok v s ≡ Ok (t, a) → Leaves rules IsPlace s a t
+pointed_made rules tok v s (Some (form.Address w)) is good at a t e =
+    leaves_as rules IsPlace s s t w a e (record { good = good; grows = grows_none s.vertices; value = inl (good.kept.of_variables v w is) })
+pointed_made rules tok v s _ is good at a t e = deref_place rules tok v s good at a t e
 
-pub pointed_keeps : (known : List Known) (base : List Made) (tok : Tok) (v : ℕ) → v < length base → Keeps known base IsPlace (pointed_to tok v)
-pointed_keeps known base tok v at = record {
-  leaves = λ s good g a t e. pointed_made known tok v s (form_at s.vertices v) refl good (omega (arith, g.longer)) a t e;
+pub pointed_keeps : (rules : Rules) (base : List Made) (tok : Tok) (v : ℕ) → v < length base → Keeps rules base IsPlace (pointed_to tok v)
+pointed_keeps rules base tok v at = record {
+  leaves = λ s good g a t e. pointed_made rules tok v s (form_at s.vertices v) refl good (omega (arith, g.longer)) a t e;
 }
 
 -- a place that is no dereference is a variable
-address_inside : (known : List Known) (tok : Tok) (v : ℕ) (s : State) (o : Option VertexForm) → form_at s.vertices v ≡ o → ((w : ℕ) → o ≡ Some (form.Deref w) → ⊥) → Good known s → IsPlace s.vertices v → (a : ℕ) (t : State) → address_of tok v s ≡ Ok (t, a) → Leaves known Inside s a t
-address_inside known tok v s o is other good (inl h) a t e =
-    let l = address_made known tok v s (place_of (is_address_of v) s.vertices) refl good h a t e in
+address_inside : (rules : Rules) (tok : Tok) (v : ℕ) (s : State) (o : Option VertexForm) → form_at s.vertices v ≡ o → ((w : ℕ) → o ≡ Some (form.Deref w) → ⊥) → Good rules s → IsPlace s.vertices v → (a : ℕ) (t : State) → address_of tok v s ≡ Ok (t, a) → Leaves rules Inside s a t
+address_inside rules tok v s o is other good (inl h) a t e =
+    let l = address_made rules tok v s (place_of (is_address_of v) s.vertices) refl good h a t e in
     record { good = l.good; grows = l.grows; value = has_within t.vertices a (form.Address v) l.value }
-address_inside known tok v s o is other good (inr (w, h)) a t e = absurd (other w (sym is ∙ h))
+address_inside rules tok v s o is other good (inr (w, h)) a t e = absurd (other w (sym is ∙ h))
 
-addressed_made : (known : List Known) (tok : Tok) (v : ℕ) (s : State) (o : Option VertexForm) → form_at s.vertices v ≡ o → Good known s → IsPlace s.vertices v → (a : ℕ) (t : State) → addressed_by o tok v s ≡ Ok (t, a) → Leaves known Inside s a t
-addressed_made known tok v s (Some (form.Deref w)) is good at a t e =
+addressed_made : (rules : Rules) (tok : Tok) (v : ℕ) (s : State) (o : Option VertexForm) → form_at s.vertices v ≡ o → Good rules s → IsPlace s.vertices v → (a : ℕ) (t : State) → addressed_by o tok v s ≡ Ok (t, a) → Leaves rules Inside s a t
+addressed_made rules tok v s (Some (form.Deref w)) is good at a t e =
     let below : w < v = good.kept.earlier v (form.Deref w) is w refl in
     let inside : v < length s.vertices = has_within s.vertices v (form.Deref w) is in
-    leaves_as known Inside s s t w a e (record { good = good; grows = grows_none s.vertices; value = omega arith })
-addressed_made known tok v s o is good at a t e = address_inside known tok v s o is (λ w h. cc) good at a t e
+    leaves_as rules Inside s s t w a e (record { good = good; grows = grows_none s.vertices; value = omega arith })
+addressed_made rules tok v s o is good at a t e = address_inside rules tok v s o is (λ w h. cc) good at a t e
 
-pub addressed_keeps : (known : List Known) (base : List Made) (tok : Tok) (v : ℕ) → IsPlace base v → Keeps known base Inside (addressed tok v)
-addressed_keeps known base tok v at = record {
-  leaves = λ s good g a t e. addressed_made known tok v s (form_at s.vertices v) refl good (place_grown base s.vertices v g at) a t e;
+pub addressed_keeps : (rules : Rules) (base : List Made) (tok : Tok) (v : ℕ) → IsPlace base v → Keeps rules base Inside (addressed tok v)
+addressed_keeps rules base tok v at = record {
+  leaves = λ s good g a t e. addressed_made rules tok v s (form_at s.vertices v) refl good (place_grown base s.vertices v g at) a t e;
 }
 
 -- ---- values and names
-null_keeps : (known : List Known) (base : List Made) (k : EmitKind) (v t : ℕ) → v < length base → t < length base → Keeps known base Nothing (null_flows k v t)
-null_keeps known base kind.Null v t a b = join_keeps known base v label.N t a b
-null_keeps known base kind.Alias v t a b = keeps_done known base Nothing tt (λ ms g. tt)
+null_keeps : (rules : Rules) (base : List Made) (k : EmitKind) (v t : ℕ) → v < length base → t < length base → Keeps rules base Nothing (null_flows k v t)
+null_keeps rules base kind.Null v t a b = join_keeps rules base v label.N t a b
+null_keeps rules base kind.Alias v t a b = keeps_done rules base Nothing tt (λ ms g. tt)
 
-pub flow_keeps : (known : List Known) (base : List Made) (k : EmitKind) (value : Value) (t : ℕ) → value.vertex < length base → t < length base → Keeps known base Nothing (flow k value t)
-flow_keeps known base k value t a b =
-    elim value.is_null as (λ n. Keeps known base Nothing (λ s. (cond n (null_flows k value.vertex t) (join value.vertex label.A t)) s)) [
-      | true ↦ null_keeps known base k value.vertex t a b
-      | false ↦ join_keeps known base value.vertex label.A t a b
+pub flow_keeps : (rules : Rules) (base : List Made) (k : EmitKind) (value : Value) (t : ℕ) → value.vertex < length base → t < length base → Keeps rules base Nothing (flow k value t)
+flow_keeps rules base k value t a b =
+    elim value.is_null as (λ n. Keeps rules base Nothing (λ s. (cond n (null_flows k value.vertex t) (join value.vertex label.A t)) s)) [
+      | true ↦ null_keeps rules base k value.vertex t a b
+      | false ↦ join_keeps rules base value.vertex label.A t a b
     ]
 
 -- a name that is found is that of a variable
@@ -311,27 +330,27 @@ found_name : (ms : List Made) (name : List ℕ) (names : List Bound) (v : ℕ) �
 found_name ms name [] v all h = absurd (cc)
 found_name ms name (b ∷ bs) v all h = found_first ms name b bs v (All-head (IsVariable ms) b bs all) (λ h. found_name ms name bs v (All-tail (IsVariable ms) b bs all) h) (bytes_eq b.name name) h
 
-variable_made : (known : List Known) (name : Name) (s : State) (o : Option ℕ) → bound_to name.bytes (s.inner ++ s.outer) ≡ o → Good known s → (a : ℕ) (t : State) → found_or o name s ≡ Ok (t, a) → Leaves known (IsOf form.Variable) s a t
-variable_made known name s (Some v) is good a t e =
-    leaves_as known (IsOf form.Variable) s s t v a e (record {
+variable_made : (rules : Rules) (name : Name) (s : State) (o : Option ℕ) → bound_to name.bytes (s.inner ++ s.outer) ≡ o → Good rules s → (a : ℕ) (t : State) → found_or o name s ≡ Ok (t, a) → Leaves rules (IsOf form.Variable) s a t
+variable_made rules name s (Some v) is good a t e =
+    leaves_as rules (IsOf form.Variable) s s t v a e (record {
       good = good;
       grows = grows_none s.vertices;
       value = found_name s.vertices name.bytes (s.inner ++ s.outer) v (All-append (IsVariable s.vertices) s.inner s.outer good.inner good.outer) is;
     })
-variable_made known name s None is good a t e = absurd (cc)
+variable_made rules name s None is good a t e = absurd (cc)
 
-pub variable_keeps : (known : List Known) (base : List Made) (name : Name) → Keeps known base (IsOf form.Variable) (variable name)
-variable_keeps known base name = record {
-  leaves = λ s good g a t e. variable_made known name s (bound_to name.bytes (s.inner ++ s.outer)) refl good a t e;
+pub variable_keeps : (rules : Rules) (base : List Made) (name : Name) → Keeps rules base (IsOf form.Variable) (variable name)
+variable_keeps rules base name = record {
+  leaves = λ s good g a t e. variable_made rules name s (bound_to name.bytes (s.inner ++ s.outer)) refl good a t e;
 }
 
-bind_keeps : (known : List Known) (base : List Made) (name : List ℕ) (v : ℕ) → Has base v form.Variable → Keeps known base (IsOf form.Variable) (bind name v)
-bind_keeps known base name v at = record {
+bind_keeps : (rules : Rules) (base : List Made) (name : List ℕ) (v : ℕ) → Has base v form.Variable → Keeps rules base (IsOf form.Variable) (bind name v)
+bind_keeps rules base name v at = record {
   leaves = λ s good g a t e.
       let b : Bound = record { name = name; vertex = v } in
       let here : Has s.vertices v form.Variable = g.has v form.Variable at in
-      leaves_as known (IsOf form.Variable) s (record { vertices = s.vertices; edges = s.edges; inner = b ∷ s.inner; outer = s.outer }) t v a e (record {
-        good = record { kept = good.kept; inner = All-cons (IsVariable s.vertices) b s.inner here good.inner; outer = good.outer; targets = good.targets };
+      leaves_as rules (IsOf form.Variable) s (record { vertices = s.vertices; edges = s.edges; inner = b ∷ s.inner; outer = s.outer }) t v a e (record {
+        good = record { kept = good.kept; named = good.named; inner = All-cons (IsVariable s.vertices) b s.inner here good.inner; outer = good.outer; targets = good.targets };
         grows = grows_none s.vertices;
         value = here;
       });
@@ -341,12 +360,12 @@ chosen : {A : Type 0} (b : Bool) (e : EmitFault) (r : Result (State × A) EmitFa
 chosen true e r t a h = absurd (cc)
 chosen false e r t a h = h
 
-pub declare_keeps : (known : List Known) (base : List Made) (name : Name) → Keeps known base (IsOf form.Variable) (declare name)
-declare_keeps known base name = record {
+pub declare_keeps : (rules : Rules) (base : List Made) (name : Name) → rules.Allowed name.bytes → Keeps rules base (IsOf form.Variable) (declare name)
+declare_keeps rules base name allowed = record {
   leaves = λ s good g a t e.
       let w = fresh name.tok form.Variable name.bytes ⟫ bind name.bytes in
-      let k : Keeps known base (IsOf form.Variable) w = keeps_then known base (IsOf form.Variable) (IsOf form.Variable) (fresh name.tok form.Variable name.bytes) (bind name.bytes)
-      (fresh_keeps known base name.tok form.Variable name.bytes refl) (λ ms v g h. bind_keeps known ms name.bytes v h) in
+      let k : Keeps rules base (IsOf form.Variable) w = keeps_then rules base (IsOf form.Variable) (IsOf form.Variable) (fresh name.tok form.Variable name.bytes) (bind name.bytes)
+      (fresh_keeps rules base name.tok form.Variable name.bytes refl allowed) (λ ms v g h. bind_keeps rules ms name.bytes v h) in
       k.leaves s good g a t (chosen (is_some (bound_to name.bytes s.inner)) _ (w s) t a e);
 }
 
@@ -358,23 +377,24 @@ closed_of before (Ok (u, b)) t a e =
     (u, (ap (λ b. Ok (u, b)) (ap (λ x. x.1) both), sym (ap (λ x. x.0) both)))
 closed_of before (Err f) t a e = absurd (cc)
 
-pub scoped_keeps : {A : Type 0} (known : List Known) (base : List Made) (Q : List Made → A → Type 0) (names : List Bound) (w : Walk A) → All (IsVariable base) names → Keeps known base Q w → Keeps known base Q (scoped names w)
-scoped_keeps {A} known base Q names w all k = record {
+pub scoped_keeps : {A : Type 0} (rules : Rules) (base : List Made) (Q : List Made → A → Type 0) (names : List Bound) (w : Walk A) → All (IsVariable base) names → Keeps rules base Q w → Keeps rules base Q (scoped names w)
+scoped_keeps {A} rules base Q names w all k = record {
   leaves = λ s good g a t e.
       let inside : State = record { vertices = s.vertices; edges = s.edges; inner = names; outer = s.inner ++ s.outer } in
       let r = closed_of s (w inside) t a e in
       let u = r.0 in
-      let opened : Good known inside = record {
+      let opened : Good rules inside = record {
         kept = good.kept;
+        named = good.named;
         inner = variables_grown base s.vertices names g all;
         outer = All-append (IsVariable s.vertices) s.inner s.outer good.inner good.outer;
         targets = good.targets;
       } in
       let l = k.leaves inside opened g a u r.1.0 in
-      let left : Leaves known Q s a (record { vertices = u.vertices; edges = u.edges; inner = s.inner; outer = s.outer }) = record {
-        good = record { kept = l.good.kept; inner = variables_grown s.vertices u.vertices s.inner l.grows good.inner; outer = variables_grown s.vertices u.vertices s.outer l.grows good.outer; targets = l.good.targets };
+      let left : Leaves rules Q s a (record { vertices = u.vertices; edges = u.edges; inner = s.inner; outer = s.outer }) = record {
+        good = record { kept = l.good.kept; named = l.good.named; inner = variables_grown s.vertices u.vertices s.inner l.grows good.inner; outer = variables_grown s.vertices u.vertices s.outer l.grows good.outer; targets = l.good.targets };
         grows = l.grows;
         value = l.value;
       } in
-      subst (λ t. Leaves known Q s a t) (sym r.1.1) left;
+      subst (λ t. Leaves rules Q s a t) (sym r.1.1) left;
 }

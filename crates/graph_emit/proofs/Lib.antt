@@ -7,6 +7,7 @@ pub mod Forms
 pub mod Kept
 pub mod Keeps
 pub mod Trees
+pub mod Names
 pub mod Programs
 pub mod Loops
 pub mod Calls

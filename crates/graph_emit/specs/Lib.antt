@@ -4,3 +4,4 @@ pub mod Walk
 pub mod Program
 pub mod Functions
 pub mod Settings
+pub mod Names

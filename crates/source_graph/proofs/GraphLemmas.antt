@@ -10,7 +10,7 @@ use Rattle.c_tree.specs.declared.tree.Program.{Program}
 use Rattle.c_tree.specs.Tokens.{source}
 use Rattle.c_parser.specs.declared.fault.ParseFault.{ParseFault}
 use Rattle.c_parser.specs.declared.fault.ParseFault.TheVariants as parse
-use Rattle.c_parser.specs.Program.{IsFaultOf, IsOnlyProgram, IsProgram}
+use Rattle.c_parser.specs.Program.{IsFaultOf, IsOnlyProgram}
 use Rattle.emit_list.specs.Vertices.{Listed}
 use Rattle.graph_emit.specs.declared.fault.EmitFault.{EmitFault}
 use Rattle.graph_emit.specs.declared.fault.EmitFault.TheVariants as emit

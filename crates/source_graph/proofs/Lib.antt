@@ -1,1 +1,3 @@
 pub mod GraphLemmas
+pub mod Spelled
+pub mod NameLemmas

@@ -6,4 +6,4 @@ mod laws;
 mod lines;
 
 pub use graph::{LONGEST_SOURCE, SourceFault, source_graph};
-pub use laws::texts_have_one_graph;
+pub use laws::{declared_names_are_names, graphs_read_back, texts_have_one_graph};

@@ -1,4 +1,4 @@
-use Rattle.std.proofs.Common.{◌≤◌, List, length, subst, arith}
+use Rattle.std.proofs.Common.{List, subst, arith}
 use Rattle.c_lexer.specs.declared.token.Token.{Token}
 use Rattle.c_tree.specs.Tokens.{source}
 use Rattle.c_parser.specs.Program.{IsFaultOf, IsOnlyProgram}
