@@ -7,7 +7,7 @@ use Rattle.normal_law.specs.Closure.{Normal}
 use Rattle.normal_law.specs.NormalForm.{normal_form}
 use Rattle.closing_machine.proofs.Members.{either}
 use Rattle.disk_model.specs.Disk.{Contents}
-use Rattle.disk_model.specs.Crash.{From, LeavesJust, LeavesOnly}
+use Rattle.disk_model.specs.Crash.{Elapses, From, LeavesJust, LeavesOnly, NoMore}
 use Rattle.disk_model.specs.Run.{and_then, at_end, no_step, then_no_more, then_run}
 use Rattle.disk_model.specs.OneFile.{OnlyFile}
 use Rattle.manifest_codec.specs.declared.types.Manifest.{Manifest}
@@ -15,7 +15,6 @@ use Rattle.manifest_codec.specs.declared.types.PartEntry.{PartEntry}
 use Rattle.manifest_codec.specs.Spelling.{Fits}
 use Rattle.manifest_switch.specs.declared.slot.Slot.{Slot}
 use Rattle.manifest_switch.specs.declared.slot.Slot.TheVariants.{One, Zero}
-use Rattle.disk_model.specs.Looks.{Looks}
 use Rattle.manifest_switch.specs.Slots.{chosen, current_of, file_of, is_open, open_body, other}
 use Rattle.manifest_switch.specs.Steps.{IsAmid, Stays, Switches}
 use Rattle.manifest_switch.proofs.LawLemmas.{alone_law}
@@ -100,8 +99,8 @@ module _ {D : Type 0} (seen : D → Contents) (moment : D → ℕ) (left_since :
   pub nothing : (m : Manifest) (old : D) → LeavesOnly moment left_since old old (From (images old) (Spares m))
   nothing m old = no_step moment left_since images counts_now only_now old (Spares m) (spares_refl m)
 
-  pub looked : (m : Manifest) (old new : D) → Looks seen images moment left_since old new → LeavesOnly moment left_since old new (From (images old) (Spares m))
-  looked m old new looks = then_no_more moment left_since images counts_now only_now old old new (From (images old) (Spares m)) (nothing m old) looks.time looks.no_more
+  pub looked : (m : Manifest) (old new : D) → Elapses (moment old) (moment new) (left_since old) (left_since new) (images new) → NoMore (images old) (images new) → LeavesOnly moment left_since old new (From (images old) (Spares m))
+  looked m old new time no_more = then_no_more moment left_since images counts_now only_now old old new (From (images old) (Spares m)) (nothing m old) time no_more
 
   pub further : (m : Manifest) (old mid new : D) → LeavesOnly moment left_since old mid (From (images old) (Spares m)) → LeavesOnly moment left_since mid new (From (images mid) (Spares m)) → LeavesOnly moment left_since old new (From (images old) (Spares m))
   further m old mid new run more = then_run moment left_since images counts_now only_now old mid new (Spares m) (Spares m) (Spares m) run more (λ d c step. step) (λ d e c image mid-image first next. spares_trans m d e c first next)

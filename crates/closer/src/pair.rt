@@ -41,7 +41,6 @@ pub(crate) fn load_pair<D: Disk>(
     ensures loaded { IfOk result (λ p. ArePairIn store.now low high p.0 p.1) }
     ensures spelled { IsTrue D.tells → IfOk result (λ p. AreSpelled store.now (D.seen disk.old) low high p.0 p.1) }
     ensures looks { OnlyLooks D.Disk disk.old disk.new }
-    ensures later { D.faults disk.old ≤ D.faults disk.new }
     ensures cause { HasReason why_of (on_disk D.Disk disk.old disk.new
         (BlamesPair store.now D.tells (D.seen disk.old) low high)) result }
 {

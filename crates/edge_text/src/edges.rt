@@ -2,7 +2,7 @@
 ghost use Rattle.std.specs.Prelude.{◌≡◌, ◌<◌, ◌≤◌, ◌^◌, ℕ, List, Some, IfOk, IfErr, OnErr, [], true, length};
 ghost use Rattle.faults.specs.declared.kinds.InputKind.{InputKind as AKind};
 ghost use Rattle.faults.specs.Counts.{Rose};
-ghost use Rattle.io_edge.specs.View.{NoCountFalls};
+ghost use Rattle.io_edge.specs.View.{KeepsInputs};
 ghost use Rattle.graph_words.specs.Reach.{graph_with, IsGraph};
 ghost use Rattle.graph_words.specs.Text.{distinct};
 ghost use Rattle.edge_text.specs.EdgesText.{edges_fault, vertex_count_of, ReadsFile};
@@ -65,8 +65,7 @@ fn read_text<I: Inputs>(
         → I.told inputs.old name.now ≡ Some file → IsFed 0 names [] reader.old []
         → edges_fault 0 names file ≡ Some (record { line = line; kind = kind })) }
     ensures failed { IfErr result (λ e. e ≡ EdgesFault.ReadFailed → Rose (I.faults inputs.old name.now) (I.faults inputs.new name.now)) }
-    ensures kept { I.told inputs.new ≡ I.told inputs.old }
-    ensures others { NoCountFalls I.Inputs inputs.old inputs.new }
+    ensures keeps { KeepsInputs I.Inputs inputs.old inputs.new }
 {
     let mut edges = Vec::new(alloc);
     let mut place: u64 = 0;
@@ -100,8 +99,7 @@ pub fn read_edges<I: Inputs>(
         → I.told inputs.old name.now ≡ Some file → table.old ≡ distinct names
         → edges_fault 0 names file ≡ Some (record { line = line; kind = kind })) }
     ensures failed { IfErr result (λ e. e ≡ EdgesFault.ReadFailed → Rose (I.faults inputs.old name.now) (I.faults inputs.new name.now)) }
-    ensures kept { I.told inputs.new ≡ I.told inputs.old }
-    ensures others { NoCountFalls I.Inputs inputs.old inputs.new }
+    ensures keeps { KeepsInputs I.Inputs inputs.old inputs.new }
     ensures unread { OnErr result (table.new ≡ table.old) }
 {
     let mut piece = Vec::from_elem(alloc, 0, PIECE_LEN)?;

@@ -3,11 +3,10 @@ use Rattle.std.proofs.Common.{◌≡◌, ◌≤◌, ℕ, List, Option, Some, Ok,
 use Rattle.graph_words.specs.declared.types.Born.{Born}
 use Rattle.normal_law.specs.NormalForm.{normal_form}
 use Rattle.disk_model.specs.Disk.{Contents}
-use Rattle.disk_model.specs.Crash.{From, LeavesOnly}
+use Rattle.disk_model.specs.Crash.{Elapses, From, LeavesOnly, NoMore}
 use Rattle.disk_model.specs.Run.{and_then, at_end, started, then_no_more}
 use Rattle.manifest_codec.specs.declared.types.Manifest.{Manifest}
 use Rattle.manifest_switch.specs.declared.slot.Found.TheVariants.{At, Blank}
-use Rattle.disk_model.specs.Looks.{Looks}
 use Rattle.manifest_switch.specs.Slots.{IsBlank, current_of}
 use Rattle.manifest_switch.specs.Steps.{Stays}
 use Rattle.manifest_switch.proofs.LawLemmas.{alone_law, blank_iff}
@@ -55,8 +54,8 @@ module _ {D : Type 0} (seen : D → Contents) (images : D → Contents → Type 
   pub stops_nowhere : (old : D) → Stops old old
   stops_nowhere old g e tg te left = started moment left_since old (IsLeft (texts_of g e)) (λ c now. left c (only_now old c now))
 
-  pub stops_looking : (old mid new : D) → Stops old mid → Looks seen images moment left_since mid new → Stops old new
-  stops_looking old mid new first looks g e tg te left = then_no_more moment left_since images counts_now only_now old mid new (IsLeft (texts_of g e)) (first g e tg te left) looks.time looks.no_more
+  pub stops_looking : (old mid new : D) → Stops old mid → Elapses (moment mid) (moment new) (left_since mid) (left_since new) (images new) → NoMore (images mid) (images new) → Stops old new
+  stops_looking old mid new first time no_more g e tg te left = then_no_more moment left_since images counts_now only_now old mid new (IsLeft (texts_of g e)) (first g e tg te left) time no_more
 
   -- more calls, each image of which is left where those before are
   further : (old mid new : D) (P : Contents → Type 0) → Stops old mid → LeavesOnly moment left_since mid new P → ((g e : List ℕ) → told grammar ≡ Some g → told edges ≡ Some e → ((c : Contents) → images mid c → IsLeft (texts_of g e) c) → (c : Contents) → P c → IsLeft (texts_of g e) c) → Stops old new

@@ -1,6 +1,6 @@
 //! The command that words mean.
 ghost use Rattle.std.specs.Prelude.{◌≡◌, ◌≢◌, true, false, ◌⊎◌, ◌≤◌, ℕ, List, Option, Some, IsTrue, OnOk};
-ghost use Rattle.io_edge.specs.View.{NoCountFalls, WriteRose};
+ghost use Rattle.io_edge.specs.View.{KeepsInputs, WriteRose};
 ghost use Rattle.disk_model.specs.Disk.{Contents};
 ghost use Rattle.disk_model.specs.View.{OnlyLooks};
 ghost use Rattle.store_law.specs.Left.{IsLeft};
@@ -48,8 +48,7 @@ fn carry_out<I: Inputs, D: Disk, O: Sink>(
         → said command.entry ≡ runs edges grammar options show
         → MayBeStopped D.Disk (I.told inputs.old) edges grammar disk.old disk.new }
     ensures looks { IsLook (said command.entry) → OnlyLooks D.Disk disk.old disk.new }
-    ensures kept { I.told inputs.new ≡ I.told inputs.old }
-    ensures others { NoCountFalls I.Inputs inputs.old inputs.new }
+    ensures keeps { KeepsInputs I.Inputs inputs.old inputs.new }
     ensures later { D.faults disk.old ≤ D.faults disk.new }
     ensures writes { O.faults out.old ≤ O.faults out.new }
 {

@@ -1,6 +1,6 @@
 //! The command `emit`: the graph of a C file.
 ghost use Rattle.std.specs.Prelude.{◌≡◌, ◌≢◌, ◌≤◌, ℕ, List, IfErr, IfOk, is_some};
-ghost use Rattle.io_edge.specs.View.{NoCountFalls, ReadRose, WriteRose};
+ghost use Rattle.io_edge.specs.View.{KeepsInputs, ReadRose, WriteRose};
 ghost use Rattle.source_graph.specs.Sources.{IsSourceGraph};
 ghost use Rattle.graspan_top.specs.declared.status.Status.TheVariants.{Done};
 ghost use Rattle.graspan_top.specs.Emission.{EmitExplains, IsEmitText, graph_kind as kind_of_graph, source_causes};
@@ -39,8 +39,7 @@ fn graph_of_file<I: Inputs>(
     ensures graph { IfOk result (λ list. WhereTold (I.told inputs.old source.now) (λ s. IsSourceGraph (kind_of_graph kind) s list)) }
     ensures refused { IfErr result (Refuses (source_causes (I.told inputs.old source.now) kind
         (ReadRose I.Inputs inputs.old inputs.new source.now))) }
-    ensures kept { I.told inputs.new ≡ I.told inputs.old }
-    ensures others { NoCountFalls I.Inputs inputs.old inputs.new }
+    ensures keeps { KeepsInputs I.Inputs inputs.old inputs.new }
 {
     let text = match read_whole(alloc, inputs, source, SOURCE_LIMIT) {
         Ok(text) => text,
@@ -72,8 +71,7 @@ pub(crate) fn emit<I: Inputs, O: Sink>(
         (O.told out.old) (O.told out.new) (status_of result) }
     ensures begun { Begins (is_some (I.told inputs.old source.now)) (IsNothingOr (IsEmitText (I.told inputs.old source.now) kind))
         (O.told out.old) (O.told out.new) (status_of result) }
-    ensures kept { I.told inputs.new ≡ I.told inputs.old }
-    ensures others { NoCountFalls I.Inputs inputs.old inputs.new }
+    ensures keeps { KeepsInputs I.Inputs inputs.old inputs.new }
     ensures writes { O.faults out.old ≤ O.faults out.new }
 {
     texts_have_one_graph();

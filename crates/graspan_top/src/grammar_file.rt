@@ -1,6 +1,6 @@
 //! The grammar file is read and checked.
-ghost use Rattle.std.specs.Prelude.{◌≡◌, ◌≤◌, ℕ, List, IfOk, IfErr};
-ghost use Rattle.io_edge.specs.View.{NoCountFalls, ReadRose};
+ghost use Rattle.std.specs.Prelude.{◌≤◌, ℕ, List, IfOk, IfErr};
+ghost use Rattle.io_edge.specs.View.{KeepsInputs, ReadRose};
 ghost use Rattle.graspan_top.specs.Faults.{Refuses};
 ghost use Rattle.graspan_top.specs.Stages.{IsGrammarFile, grammar_causes};
 
@@ -22,8 +22,7 @@ pub(crate) fn read_grammar_file<I: Inputs>(
     ensures read { IfOk result (λ text. IsGrammarFile (I.told inputs.old name.now) text.items) }
     ensures refused { IfErr result (Refuses (grammar_causes (I.told inputs.old name.now)
         (ReadRose I.Inputs inputs.old inputs.new name.now))) }
-    ensures kept { I.told inputs.new ≡ I.told inputs.old }
-    ensures others { NoCountFalls I.Inputs inputs.old inputs.new }
+    ensures keeps { KeepsInputs I.Inputs inputs.old inputs.new }
 {
     let bytes = match read_whole(alloc, inputs, name, GRAMMAR_LIMIT) {
         Ok(bytes) => bytes,

@@ -35,7 +35,6 @@ use store::{OpenMode, Opened, Store, open};
 fn found<D: Disk>(alloc: Global, disk: &mut D) -> Result<Store, Status>
     ensures held { IsTrue D.tells → IfOk result (λ s. IsHeld s (D.seen disk.old)) }
     ensures looks { OnlyLooks D.Disk disk.old disk.new }
-    ensures later { D.faults disk.old ≤ D.faults disk.new }
     ensures cause { IfErr result (Refuses (find_causes D.tells (D.seen disk.old) none_undone (DiskRose D.Disk disk.old disk.new))) }
 {
     match open(alloc, disk, OpenMode::Look)? {
@@ -61,7 +60,6 @@ fn finished_store<D: Disk>(alloc: Global, disk: &mut D) -> Result<Store, Status>
     ensures held { IsTrue D.tells → IfOk result (λ s. IsHeld s (D.seen disk.old)) }
     ensures done { IfOk result (λ s. IsDone s.manifest) }
     ensures looks { OnlyLooks D.Disk disk.old disk.new }
-    ensures later { D.faults disk.old ≤ D.faults disk.new }
     ensures cause { IfErr result (Refuses (find_causes D.tells (D.seen disk.old) IsUnfinished (DiskRose D.Disk disk.old disk.new))) }
 {
     let store = found(alloc, disk)?;
@@ -82,7 +80,6 @@ pub(crate) fn parts<D: Disk, O: Sink>(
     ensures printed { PrintsFirst D.tells (IsPartsText (D.seen disk.old)) (O.told out.old) (O.told out.new) (status_of result) }
     ensures begun { Begins D.tells (IsNothingOr (IsPartsText (D.seen disk.old))) (O.told out.old) (O.told out.new) (status_of result) }
     ensures looks { OnlyLooks D.Disk disk.old disk.new }
-    ensures later { D.faults disk.old ≤ D.faults disk.new }
     ensures writes { O.faults out.old ≤ O.faults out.new }
 {
     let store = found(alloc, disk)?;
@@ -98,7 +95,6 @@ pub(crate) fn dump<D: Disk, O: Sink>(alloc: Global, disk: &mut D, out: &mut O) -
     ensures printed { PrintsFirst D.tells (IsDumpText (D.seen disk.old)) (O.told out.old) (O.told out.new) (status_of result) }
     ensures begun { Begins D.tells (IsNothingOr (IsDumpFront (D.seen disk.old))) (O.told out.old) (O.told out.new) (status_of result) }
     ensures looks { OnlyLooks D.Disk disk.old disk.new }
-    ensures later { D.faults disk.old ≤ D.faults disk.new }
     ensures writes { O.faults out.old ≤ O.faults out.new }
 {
     let store = finished_store(alloc, disk)?;
@@ -152,7 +148,6 @@ fn print_query<D: Disk, O: Sink>(
         ++ the_count_line (length (answers_in label (Some ends.from) ends.to edges))) (O.told out.old)
         (O.told out.new) result read × (length read ≡ 0 → AppendsPrefix (O.told out.old) (O.told out.new) []) }
     ensures looks { OnlyLooks D.Disk disk.old disk.new }
-    ensures later { D.faults disk.old ≤ D.faults disk.new }
     ensures writes { O.faults out.old ≤ O.faults out.new }
     ensures cause { HasReason why_not_printed (print_causes (WriteRose O.Sink out.old out.new) (DiskRose D.Disk disk.old disk.new)
         (IsBlamed store.now D.tells (D.seen disk.old) (first_asked store.now (Some ends.from)) 1)) result }
@@ -179,7 +174,6 @@ pub(crate) fn query<D: Disk, O: Sink>(
     ensures begun { Begins D.tells (IsNothingOr (IsQueryText (D.seen disk.old) label.now ends.from ends.to))
         (O.told out.old) (O.told out.new) (status_of result) }
     ensures looks { OnlyLooks D.Disk disk.old disk.new }
-    ensures later { D.faults disk.old ≤ D.faults disk.new }
     ensures writes { O.faults out.old ≤ O.faults out.new }
 {
     let store = finished_store(alloc, disk)?;

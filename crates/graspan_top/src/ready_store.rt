@@ -1,11 +1,11 @@
 //! A store of two files is made, or found and compared with them.
-ghost use Rattle.std.specs.Prelude.{◌≡◌, ◌≢◌, ◌≤◌, ◌⊎◌, ℕ, List, Option, IfOk, IfErr, OnOk, IsTrue};
+ghost use Rattle.std.specs.Prelude.{◌≢◌, ◌≤◌, ◌⊎◌, ℕ, List, Option, IfOk, IfErr, OnOk, IsTrue};
 ghost use Rattle.disk_model.specs.Disk.{Contents};
 ghost use Rattle.disk_model.specs.View.{DiskRose, OnlyLooks};
 ghost use Rattle.faults.specs.declared.kinds.InputFile.TheVariants.{Edges, Grammar};
 ghost use Rattle.faults.specs.Reasons.{HasReason};
 ghost use Rattle.store_fault.specs.Faults.{why_of};
-ghost use Rattle.io_edge.specs.View.{NoCountFalls, ReadRose};
+ghost use Rattle.io_edge.specs.View.{KeepsInputs, ReadRose};
 ghost use Rattle.open_store.specs.Answers.{compare_causes, copy_of};
 ghost use Rattle.graspan_top.specs.declared.status.Status.TheVariants.{Done};
 ghost use Rattle.graspan_top.specs.Faults.{of_store};
@@ -44,9 +44,7 @@ fn compare<I: Inputs, D: Disk>(
         (DiffersFromCopy (I.told inputs.old files.now.grammar.now) (I.told inputs.old files.now.edges.now) D.tells
         (D.seen disk.old) store.now.manifest)) result }
     ensures looks { OnlyLooks D.Disk disk.old disk.new }
-    ensures kept { I.told inputs.new ≡ I.told inputs.old }
-    ensures others { NoCountFalls I.Inputs inputs.old inputs.new }
-    ensures later { D.faults disk.old ≤ D.faults disk.new }
+    ensures keeps { KeepsInputs I.Inputs inputs.old inputs.new }
 {
     same_input(
         alloc,
@@ -82,8 +80,7 @@ fn found_or_made<I: Inputs, D: Disk>(
         (ReadRose I.Inputs inputs.old inputs.new files.now.grammar.now)
         (DiskRose D.Disk disk.old disk.new) ⊥ (of_store fault)) }
     ensures stops { MayBeStopped D.Disk (I.told inputs.old) files.now.edges.now files.now.grammar.now disk.old disk.new }
-    ensures kept { I.told inputs.new ≡ I.told inputs.old }
-    ensures others { NoCountFalls I.Inputs inputs.old inputs.new }
+    ensures keeps { KeepsInputs I.Inputs inputs.old inputs.new }
     ensures later { D.faults disk.old ≤ D.faults disk.new }
 {
     match open(alloc, disk, OpenMode::Change)? {
@@ -117,8 +114,7 @@ pub(crate) fn ready_store<I: Inputs, D: Disk>(
         (DiskRose D.Disk disk.old disk.new) ⊥ fault) }
     ensures fails { IfErr result (λ fault. fault ≢ Done) }
     ensures stops { MayBeStopped D.Disk (I.told inputs.old) files.now.edges.now files.now.grammar.now disk.old disk.new }
-    ensures kept { I.told inputs.new ≡ I.told inputs.old }
-    ensures others { NoCountFalls I.Inputs inputs.old inputs.new }
+    ensures keeps { KeepsInputs I.Inputs inputs.old inputs.new }
     ensures later { D.faults disk.old ≤ D.faults disk.new }
 {
     let grammar = read_grammar_file(alloc, inputs, files.grammar)?;

@@ -4,7 +4,7 @@ ghost use Rattle.graspan_top.specs.Faults.{Refuses};
 ghost use Rattle.faults.specs.Reasons.{HasReason};
 ghost use Rattle.graph_words.specs.declared.types.Born.{Born as ABorn};
 ghost use Rattle.io_edge.specs.Devices.{AppendsPrefix, Takes};
-ghost use Rattle.io_edge.specs.View.{NoCountFalls, ReadRose, WriteRose};
+ghost use Rattle.io_edge.specs.View.{KeepsInputs, ReadRose, WriteRose};
 ghost use Rattle.closing_machine.specs.Parts.{all_edges};
 ghost use Rattle.disk_model.specs.Disk.{Contents};
 ghost use Rattle.disk_model.specs.View.{DiskRose, OnlyLooks};
@@ -44,7 +44,6 @@ fn print_shown<D: Disk, O: Sink>(
     ensures printed { IsTrue D.tells → (parts : List (List ABorn)) → AreListedIn store.now (D.seen disk.old) parts
         → Takes (O.told out.old) (O.told out.new) result (shown_text shown (all_edges parts)) }
     ensures looks { OnlyLooks D.Disk disk.old disk.new }
-    ensures later { D.faults disk.old ≤ D.faults disk.new }
     ensures writes { O.faults out.old ≤ O.faults out.new }
     ensures cause { HasReason why_not_printed (print_causes (WriteRose O.Sink out.old out.new) (DiskRose D.Disk disk.old disk.new)
         (IsBlamed store.now D.tells (D.seen disk.old) 0 (length store.now.manifest.parts))) result }
@@ -75,7 +74,6 @@ fn print_run<D: Disk, O: Sink>(
         × AppendsPrefix (O.told out.old) (O.told out.new) text) }
     ensures listed { IsTrue D.tells → OnOk result ((parts : List (List ABorn)) × AreListedIn store.now (D.seen disk.old) parts) }
     ensures looks { OnlyLooks D.Disk disk.old disk.new }
-    ensures later { D.faults disk.old ≤ D.faults disk.new }
     ensures writes { O.faults out.old ≤ O.faults out.new }
     ensures cause { HasReason why_not_printed (print_causes (WriteRose O.Sink out.old out.new) (DiskRose D.Disk disk.old disk.new)
         (IsBlamed store.now D.tells (D.seen disk.old) 0 (length store.now.manifest.parts))) result }
@@ -104,7 +102,6 @@ fn show_run<D: Disk, O: Sink>(
     ensures begun { Begins D.tells (IsNothingOr (IsRunBegun (D.seen disk.old) (option_map (λ l. l.now) show.entry)))
         (O.told out.old) (O.told out.new) (status_of result) }
     ensures looks { OnlyLooks D.Disk disk.old disk.new }
-    ensures later { D.faults disk.old ≤ D.faults disk.new }
     ensures writes { O.faults out.old ≤ O.faults out.new }
 {
     let shown = shown_number(store.manifest(), show)?;
@@ -131,8 +128,7 @@ fn closed_store<I: Inputs, D: Disk>(
         (DiskRose D.Disk disk.old disk.new) ⊥ fault) }
     ensures fails { IfErr result (λ fault. fault ≢ Done) }
     ensures stops { MayBeStopped D.Disk (I.told inputs.old) files.now.edges.now files.now.grammar.now disk.old disk.new }
-    ensures kept { I.told inputs.new ≡ I.told inputs.old }
-    ensures others { NoCountFalls I.Inputs inputs.old inputs.new }
+    ensures keeps { KeepsInputs I.Inputs inputs.old inputs.new }
     ensures later { D.faults disk.old ≤ D.faults disk.new }
 {
     let store = ready_store(alloc, files, options.part_edges, inputs, disk)?;
@@ -164,8 +160,7 @@ pub(crate) fn run<I: Inputs, D: Disk, O: Sink>(
         → status_of result ≡ Done
         → AreExact (texts_of g e) (D.seen disk.new) × ((c : Contents) → D.may_leave disk.new c → AreExact (texts_of g e) c) }
     ensures stops { MayBeStopped D.Disk (I.told inputs.old) files.now.edges.now files.now.grammar.now disk.old disk.new }
-    ensures kept { I.told inputs.new ≡ I.told inputs.old }
-    ensures others { NoCountFalls I.Inputs inputs.old inputs.new }
+    ensures keeps { KeepsInputs I.Inputs inputs.old inputs.new }
     ensures later { D.faults disk.old ≤ D.faults disk.new }
     ensures writes { O.faults out.old ≤ O.faults out.new }
 {

@@ -1,5 +1,5 @@
 -- A copy is read piece by piece, and what its lines give is gathered.
-use Rattle.std.proofs.Common.{◌≡◌, ◌≢◌, inl, ℕ, ◌≤◌, List, [], ◌++◌, length, take, refl, ◌∙◌, arith, subst}
+use Rattle.std.proofs.Common.{◌≡◌, ◌≢◌, ℕ, ◌≤◌, List, [], ◌++◌, length, take, refl, ◌∙◌, arith, subst}
 use Rattle.graph_words.specs.declared.types.Edge.{Edge}
 use Rattle.normal_law.specs.Closure.{Normal}
 use Rattle.faults.specs.declared.kinds.InputKind.{InputKind}
@@ -8,8 +8,7 @@ use Rattle.edge_text.specs.declared.edges.EdgesFault.{EdgesFault}
 use Rattle.edge_text.specs.declared.edges.EdgesFault.TheVariants as edges
 use Rattle.edge_text.specs.Feed.{IsFed}
 use Rattle.edge_text.proofs.FeedLemmas.{IsReadTo, reads_start, reads_on}
-use Rattle.disk_model.specs.Disk.{Contents, Reads}
-use Rattle.disk_model.specs.Looks.{Looks}
+use Rattle.disk_model.specs.Disk.{Reads}
 use Rattle.faults.specs.Reasons.{BlamesText, Holds, disk_causes}
 use Rattle.store_fault.specs.Faults.{why_of}
 use Rattle.import_text.specs.Given.{AddsJust, IsAboveIn}
@@ -17,32 +16,6 @@ use Rattle.import_text.specs.Gathered.{Gathered, Gathers, GathersPiece, GathersE
 use Rattle.import_text.specs.GivenPart.{GathersFile, copy_fault}
 use Rattle.import_text.proofs.DegreeLemmas.{vertex_count_of-append}
 use Rattle.import_text.proofs.GivenLemmas.{AddsJust-then, above_none, above_append}
-
--- ---- looking at a disk
-module _ {D : Type 0} (seen : D → Contents) (may_leave : D → Contents → Type 0) (moment : D → ℕ) (left_since : D → ℕ → Contents → Type 0) where
-  pub looks_none : (old : D) → Looks seen may_leave moment left_since old old
-  looks_none old =
-      record {
-        same_seen = refl;
-        no_more = λ c h. h;
-        no_less = λ c h. h;
-        past = λ t c h. h;
-        time = record { later = omega arith; nothing_else = λ t c le h. inl h; keeps = λ t c le h. h };
-      }
-
-  pub looks_then : (old mid new : D) → Looks seen may_leave moment left_since old mid → Looks seen may_leave moment left_since mid new → Looks seen may_leave moment left_since old new
-  looks_then old mid new a b =
-      record {
-        same_seen = b.same_seen ∙ a.same_seen;
-        no_more = λ c h. a.no_more c (b.no_more c h);
-        no_less = λ c h. b.no_less c (a.no_less c h);
-        past = λ t c h. a.past t c (b.past t c h);
-        time = record {
-          later = omega (arith, a.time.later, b.time.later);
-          nothing_else = λ t c le h. inl (a.past t c (b.past t c h));
-          keeps = λ t c le h. b.time.keeps t c (omega (arith, le, a.time.later)) (a.time.keeps t c le h);
-        };
-      }
 
 -- what a read of a disk's file gives
 pub gives_from_reads : (file : List ℕ) (at : ℕ) (buf : List ℕ) (n : ℕ) → Reads file at buf n → Gives file at buf n

@@ -2,7 +2,7 @@
 ghost use Rattle.std.specs.Prelude.{◌≡◌, ◌≢◌, ◌<◌, ◌≤◌, ◌^◌, ℕ, List, [], true, IsTrue, IfOk, OnOk, length};
 ghost use Rattle.std.specs.List.{sum};
 ghost use Rattle.faults.specs.Reasons.{HasReason};
-ghost use Rattle.io_edge.specs.View.{NoCountFalls, ReadRose};
+ghost use Rattle.io_edge.specs.View.{KeepsInputs, ReadRose};
 ghost use Rattle.graph_words.specs.Text.{distinct};
 ghost use Rattle.edge_text.specs.Feed.{IsFed};
 ghost use Rattle.disk_model.specs.View.{DiskRose, LeavesBy};
@@ -56,8 +56,7 @@ fn copy_pieces<I: Inputs, D: Disk>(
     ensures cause { HasReason why_of (copy_causes (ReadRose I.Inputs inputs.old inputs.new name.now) (DiskRose D.Disk disk.old disk.new)
         (λ names. IsFed 0 names [] tally.old.reader []) (I.told inputs.old name.now)) result }
     ensures any_moment { LeavesBy D.Disk disk.old disk.new (OnlyFile file) }
-    ensures kept { I.told inputs.new ≡ I.told inputs.old }
-    ensures others { NoCountFalls I.Inputs inputs.old inputs.new }
+    ensures keeps { KeepsInputs I.Inputs inputs.old inputs.new }
     ensures later { D.faults disk.old ≤ D.faults disk.new }
 {
     let mut place: u64 = 0;
@@ -100,8 +99,7 @@ pub fn copy_edges<I: Inputs, D: Disk>(
     ensures cause { HasReason why_of (copy_causes (ReadRose I.Inputs inputs.old inputs.new name.now) (DiskRose D.Disk disk.old disk.new)
         (λ names. table ≡ distinct names) (I.told inputs.old name.now)) result }
     ensures any_moment { LeavesBy D.Disk disk.old disk.new (OnlyFile file) }
-    ensures kept { I.told inputs.new ≡ I.told inputs.old }
-    ensures others { NoCountFalls I.Inputs inputs.old inputs.new }
+    ensures keeps { KeepsInputs I.Inputs inputs.old inputs.new }
     ensures later { D.faults disk.old ≤ D.faults disk.new }
 {
     let mut piece = Vec::from_elem(alloc, 0, PIECE_LEN)?;

@@ -63,7 +63,6 @@ fn gather_pieces<D: Disk>(
     ensures cause { HasReason why_of (on_disk D.Disk disk.old disk.new
         (BlamesText (IsTrue D.tells → (names : List (List ℕ))
         → IsFed 0 names [] gathering.old.reader [] → edges_fault 0 names (D.seen disk.old file) ≡ None → ⊥) file)) result }
-    ensures later { D.faults disk.old ≤ D.faults disk.new }
     ensures looks { OnlyLooks D.Disk disk.old disk.new }
 {
     let mut place: u64 = 0;
@@ -96,7 +95,6 @@ fn gather_copy<D: Disk>(
         span.1 (IsTrue D.tells) (D.seen disk.old copied.now.file) given.items) }
     ensures cause { HasReason why_of (on_disk D.Disk disk.old disk.new (BlamesText (IsTrue D.tells
         → IsGoodCopy copied.now.labels copied.now.len copied.now.vertices (D.seen disk.old copied.now.file) → ⊥) copied.now.file)) result }
-    ensures later { D.faults disk.old ≤ D.faults disk.new }
     ensures looks { OnlyLooks D.Disk disk.old disk.new }
 {
     // Names stand once in a table, so that only new ones make it longer.
@@ -144,7 +142,6 @@ pub fn given_edges<D: Disk>(
         (normal_form normal.now).fresh)) }
     ensures cause { HasReason why_of (on_disk D.Disk disk.old disk.new (BlamesText (IsTrue D.tells
         → IsGoodCopy copied.now.labels copied.now.len copied.now.vertices (D.seen disk.old copied.now.file) → ⊥) copied.now.file)) result }
-    ensures later { D.faults disk.old ≤ D.faults disk.new }
     ensures looks { OnlyLooks D.Disk disk.old disk.new }
 {
     // There are few fresh labels, so that each label's number fits the file of a partition.

@@ -3,7 +3,7 @@ ghost use Rattle.std.specs.Prelude.{◌≡◌, ◌+◌, ◌<◌, ◌≤◌, ◌^
 ghost use Rattle.faults.specs.Counts.{Rose};
 ghost use Rattle.io_edge.specs.WholeRead.{ReadsWhole};
 ghost use Rattle.io_edge.specs.declared.whole.ReadFault.TheVariants.{ReadFailed, NoMemory};
-ghost use Rattle.io_edge.specs.View.{NoCountFalls};
+ghost use Rattle.io_edge.specs.View.{KeepsInputs};
 
 use crate::{Failed, Inputs};
 use std::alloc::{AllocError, Global};
@@ -51,8 +51,7 @@ pub fn read_whole<I: Inputs>(
     ensures bytes { IfOk result (λ v. (file : List ℕ) → I.told inputs.old name.now ≡ Some file → ReadsWhole limit file v.items) }
     ensures len { IfOk result (λ v. vec_len v ≤ limit + 65536) }
     ensures failed { IsErrOf result ReadFault.ReadFailed → Rose (I.faults inputs.old name.now) (I.faults inputs.new name.now) }
-    ensures kept { I.told inputs.new ≡ I.told inputs.old }
-    ensures others { NoCountFalls I.Inputs inputs.old inputs.new }
+    ensures keeps { KeepsInputs I.Inputs inputs.old inputs.new }
 {
     let mut whole = Vec::new(alloc);
     let mut buf = new_piece(alloc)?;

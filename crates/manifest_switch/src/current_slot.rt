@@ -1,5 +1,5 @@
 //! Which slot is current.
-ghost use Rattle.std.specs.Prelude.{◌≡◌, ◌≢◌, ◌⊎◌, ◌+◌, ◌-◌, ◌<◌, ◌≤◌, ◌^◌, ◌==◌, slice_index, ℕ, Bool, IsTrue};
+ghost use Rattle.std.specs.Prelude.{◌≡◌, ◌≢◌, ◌⊎◌, ◌+◌, ◌-◌, ◌<◌, ◌^◌, ◌==◌, slice_index, ℕ, Bool, IsTrue};
 ghost use Rattle.std.specs.Prelude.{true, false, length, take, drop, Option, Some, None, Ok, Err, OnOk, IfOk};
 ghost use Rattle.std.specs.Prelude.{IfSome, option_map};
 ghost use Rattle.faults.specs.Counts.{HasCause};
@@ -31,7 +31,6 @@ fn front_of<D: Disk>(
     requires { 1 + size < 2 ^ 64 }
     ensures front { IsTrue D.tells → Gives result (λ v. v.items ≡ take size (drop 1 (D.seen disk.old (file_of slot)))) }
     ensures looks { OnlyLooks D.Disk disk.old disk.new }
-    ensures later { D.faults disk.old ≤ D.faults disk.new }
     ensures cause { HasReason why_not_open (on_disk D.Disk disk.old disk.new blames_any) result }
 {
     let mut bytes = vec![in alloc; 0; size as usize]?;
@@ -51,7 +50,6 @@ fn front_says<D: Disk>(
     ensures fits { IfOk result (λ r. IfOk r Fits) }
     ensures says { IsTrue D.tells → Gives result (λ r. r ≡ value_of (reading (take size (drop 1 (D.seen disk.old (file_of slot)))))) }
     ensures looks { OnlyLooks D.Disk disk.old disk.new }
-    ensures later { D.faults disk.old ≤ D.faults disk.new }
     ensures cause { HasReason why_not_open (on_disk D.Disk disk.old disk.new blames_any) result }
 {
     let bytes = front_of(alloc, disk, slot, size)?;
@@ -89,7 +87,6 @@ fn body_of<D: Disk>(
     ensures fits { IfOk result (λ r. IfOk r Fits) }
     ensures says { IsTrue D.tells → Gives result (λ r. r ≡ body (D.seen disk.old (file_of slot))) }
     ensures looks { OnlyLooks D.Disk disk.old disk.new }
-    ensures later { D.faults disk.old ≤ D.faults disk.new }
     ensures cause { HasReason why_not_open (on_disk D.Disk disk.old disk.new blames_any) result }
 {
     more_bytes_change_nothing();
@@ -139,7 +136,6 @@ fn slot_of<D: Disk>(alloc: Global, disk: &mut D, slot: Slot) -> Result<Option<Ma
     ensures fits { IfOk result (λ m. IfSome m Fits) }
     ensures slot { IsTrue D.tells → AnswersSlot slot (open_body (D.seen disk.old (file_of slot))) result }
     ensures looks { OnlyLooks D.Disk disk.old disk.new }
-    ensures later { D.faults disk.old ≤ D.faults disk.new }
     ensures cause { HasReason why_not_open (on_disk D.Disk disk.old disk.new blames_any) result }
 {
     let Some(all) = open_len(disk, slot)? else {
@@ -211,7 +207,6 @@ pub fn current<D: Disk>(alloc: Global, disk: &mut D) -> Result<Found, OpenFault>
     ensures fits { IfOk result HoldsFit }
     ensures found { IsTrue D.tells → AnswersCurrent (current_of (D.seen disk.old)) result }
     ensures looks { OnlyLooks D.Disk disk.old disk.new }
-    ensures later { D.faults disk.old ≤ D.faults disk.new }
     ensures cause { HasReason why_not_open (on_disk D.Disk disk.old disk.new blames_any) result }
 {
     let first = slot_of(alloc, disk, Slot::Zero)?;

@@ -2,7 +2,6 @@ pub mod Tallies
 pub mod TallySteps
 pub mod Places
 pub mod Streams
-pub mod Looks
 pub mod Parts
 pub mod Causes
 pub mod Freeness

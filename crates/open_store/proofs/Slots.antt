@@ -14,7 +14,6 @@ use Rattle.manifest_switch.specs.declared.slot.Found.TheVariants.{Blank}
 use Rattle.manifest_switch.specs.declared.slot.OpenFault.{OpenFault}
 use Rattle.manifest_switch.specs.declared.slot.OpenFault.TheVariants as slots
 use Rattle.manifest_switch.specs.Answers.{AnswersCurrent, why_not_open}
-use Rattle.disk_model.specs.Looks.{Looks}
 use Rattle.manifest_switch.specs.Slots.{IsBlank, current_of, file_of, other}
 use Rattle.manifest_switch.specs.Steps.{Keeps, Stays}
 use Rattle.manifest_switch.proofs.LawLemmas.{blank_iff}
@@ -54,17 +53,13 @@ stays_keeps s d m c stays keeps =
 module _ {D : Type 0} (seen : D → Contents) (moment : D → ℕ) (left_since : D → ℕ → Contents → Type 0) (images : D → Contents → Type 0) (counts_now : (x : D) (t : ℕ) (c : Contents) → t ≤ moment x → images x c → left_since x t c)
     (only_now : (x : D) (c : Contents) → left_since x (moment x) c → images x c) where
   -- a call that only looks leaves each image as it is
-  pub looked : (old new : D) → Looks seen images moment left_since old new → LeavesOnly moment left_since old new (From (images old) Stays)
-  looked old new looks = then_no_more moment left_since images counts_now only_now old old new (From (images old) Stays) (no_step moment left_since images counts_now only_now old Stays stays_refl) looks.time looks.no_more
+  pub looked : (old new : D) → Elapses (moment old) (moment new) (left_since old) (left_since new) (images new) → NoMore (images old) (images new) → LeavesOnly moment left_since old new (From (images old) Stays)
+  looked old new time no_more = then_no_more moment left_since images counts_now only_now old old new (From (images old) Stays) (no_step moment left_since images counts_now only_now old Stays stays_refl) time no_more
 
   -- and the closing of a slot behind it leaves what is current
-  pub then_closed : (old mid new : D) (s : Slot) → Looks seen images moment left_since old mid → LeavesOnly moment left_since mid new (From (images mid) (Keeps s)) → LeavesOnly moment left_since old new (From (images old) Stays)
-  then_closed old mid new s looks closed =
-      then_run moment left_since images counts_now only_now old mid new Stays (Keeps s) Stays (looked old mid looks) closed (λ d c stays. stays) (λ d m c image mid-image stays keeps. stays_keeps s d m c stays keeps)
-
-  -- as does a look behind that
-  pub then_looked : (old mid new : D) → LeavesOnly moment left_since old mid (From (images old) Stays) → Looks seen images moment left_since mid new → LeavesOnly moment left_since old new (From (images old) Stays)
-  then_looked old mid new run looks = then_no_more moment left_since images counts_now only_now old mid new (From (images old) Stays) run looks.time looks.no_more
+  pub then_closed : (old mid new : D) (s : Slot) → Elapses (moment old) (moment mid) (left_since old) (left_since mid) (images mid) → NoMore (images old) (images mid) → LeavesOnly moment left_since mid new (From (images mid) (Keeps s)) → LeavesOnly moment left_since old new (From (images old) Stays)
+  then_closed old mid new s time no_more closed =
+      then_run moment left_since images counts_now only_now old mid new Stays (Keeps s) Stays (looked old mid time no_more) closed (λ d c stays. stays) (λ d m c image mid-image stays keeps. stays_keeps s d m c stays keeps)
 
   -- steps that leave what is current, behind a sync
   pub then_stayed : (old mid new : D) → Elapses (moment old) (moment mid) (left_since old) (left_since mid) (images mid) → NoMore (images old) (images mid) → LeavesOnly moment left_since mid new (From (images mid) Stays) → LeavesOnly moment left_since old new (From (images old) Stays)

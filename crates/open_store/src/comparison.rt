@@ -6,7 +6,7 @@ ghost use Rattle.disk_model.specs.View.{DiskRose, OnlyLooks};
 ghost use Rattle.io_edge.specs.Devices.{Gives};
 ghost use Rattle.store_fault.specs.declared.fault.StoreFault.TheVariants.{ReadFault};
 ghost use Rattle.faults.specs.declared.kinds.InputFile.TheVariants.{Source};
-ghost use Rattle.io_edge.specs.View.{NoCountFalls, ReadRose};
+ghost use Rattle.io_edge.specs.View.{KeepsInputs, ReadRose};
 ghost use Rattle.faults.specs.Reasons.{HasReason};
 ghost use Rattle.store_fault.specs.Faults.{why_of};
 ghost use Rattle.open_store.specs.Answers.{DiffersFirst, compare_causes, copy_file, copy_len, copy_of};
@@ -99,8 +99,7 @@ fn next_piece<I: Inputs>(
     ensures bytes { IfOk result (λ n. (text : List ℕ) → I.told inputs.old name.now ≡ Some text → Gives text place piece.new.items n) }
     ensures piece { length piece.new.items ≡ 65536 }
     ensures cause { IfErr result (λ e. (e ≡ ReadFault) × Rose (I.faults inputs.old name.now) (I.faults inputs.new name.now)) }
-    ensures kept { I.told inputs.new ≡ I.told inputs.old }
-    ensures others { NoCountFalls I.Inputs inputs.old inputs.new }
+    ensures keeps { KeepsInputs I.Inputs inputs.old inputs.new }
 {
     match inputs.read(name, place, piece) {
         Ok(n) => Ok(n),
@@ -128,9 +127,7 @@ fn compare<I: Inputs, D: Disk>(
     ensures cause { HasReason why_of (compare_causes (ReadRose I.Inputs inputs.old inputs.new name.now)
         (DiskRose D.Disk disk.old disk.new) (λ file place. ⊥)) result }
     ensures looks { OnlyLooks D.Disk disk.old disk.new }
-    ensures kept { I.told inputs.new ≡ I.told inputs.old }
-    ensures others { NoCountFalls I.Inputs inputs.old inputs.new }
-    ensures later { D.faults disk.old ≤ D.faults disk.new }
+    ensures keeps { KeepsInputs I.Inputs inputs.old inputs.new }
 {
     let mut text = vec![in alloc; 0; PIECE_LEN]?;
     let mut copy = vec![in alloc; 0; PIECE_LEN]?;
@@ -174,9 +171,7 @@ pub fn same_input<I: Inputs, D: Disk>(
         (λ f place. (f ≡ file) × ((text : List ℕ) → I.told inputs.old name.now ≡ Some text → IsTrue D.tells
         → DiffersFirst text (copy_of store.now.manifest file (D.seen disk.old)) place))) result }
     ensures looks { OnlyLooks D.Disk disk.old disk.new }
-    ensures kept { I.told inputs.new ≡ I.told inputs.old }
-    ensures others { NoCountFalls I.Inputs inputs.old inputs.new }
-    ensures later { D.faults disk.old ≤ D.faults disk.new }
+    ensures keeps { KeepsInputs I.Inputs inputs.old inputs.new }
 {
     let (number, size) = copy_place(store, file);
     let len = size.min(disk.len(number)?);

@@ -35,7 +35,6 @@ fn copy_bytes<D: Disk>(alloc: Global, disk: &mut D, size: u64) -> Result<Vec<u8>
     requires { size ≤ 16777216 }
     ensures bytes { IsTrue D.tells → IfOk result (λ v. (v.items ≡ take size (D.seen disk.old 2)) × (size ≤ length (D.seen disk.old 2))) }
     ensures looks { OnlyLooks D.Disk disk.old disk.new }
-    ensures later { D.faults disk.old ≤ D.faults disk.new }
     ensures cause { HasReason why_of (on_disk D.Disk disk.old disk.new (λ file place kind. (file ≡ 2) × (kind ≡ Short)
         × (IsTrue D.tells → (place ≡ length (D.seen disk.old 2)) × (length (D.seen disk.old 2) < size)))) result }
 {
@@ -89,7 +88,6 @@ pub(crate) fn grammar_of<D: Disk>(
     requires { Fits manifest.now }
     ensures read { IsTrue D.tells → IfOk result (λ rules. IsCopyRead manifest.now (D.seen disk.old 2) rules) }
     ensures looks { OnlyLooks D.Disk disk.old disk.new }
-    ensures later { D.faults disk.old ≤ D.faults disk.new }
     ensures cause { HasReason why_of (on_disk D.Disk disk.old disk.new
         (λ file place kind. IsTrue D.tells → IsBadCopy slot manifest.now (D.seen disk.old 2) file place kind)) result }
 {

@@ -1,5 +1,5 @@
 //! Partitions are loaded, or only counted.
-ghost use Rattle.std.specs.Prelude.{◌≡◌, ◌↔◌, ◌<◌, ◌≤◌, ◌+◌, ◌++◌, ◌^◌, [], ℕ, List, IsTrue, true, false, length, slice_index_or, Err, IfOk, OnOk};
+ghost use Rattle.std.specs.Prelude.{◌≡◌, ◌↔◌, ◌<◌, ◌+◌, ◌++◌, ◌^◌, [], ℕ, List, IsTrue, true, false, length, slice_index_or, Err, IfOk, OnOk};
 ghost use Rattle.faults.specs.Reasons.{HasReason, blames_none, disk_causes};
 ghost use Rattle.store_fault.specs.Faults.{why_of};
 ghost use Rattle.graph_words.specs.declared.types.Born.{Born as ABorn};
@@ -35,7 +35,6 @@ impl Store {
         ensures begun { IfOk result (λ s. (s.file ≡ part_file self.now.manifest i) × IsStream s
             × IsAt (expect_in self.now i) D.tells (D.seen disk.old (part_file self.now.manifest i)) [] [] s) }
         ensures looks { OnlyLooks D.Disk disk.old disk.new }
-        ensures later { D.faults disk.old ≤ D.faults disk.new }
         ensures cause { HasReason why_of (on_disk D.Disk disk.old disk.new blames_none) result }
     {
         PartStream::begin(alloc, disk, self.file(i), self.expect(i))
@@ -85,7 +84,6 @@ impl Store {
         requires { i < length self.now.manifest.parts }
         ensures read { IfOk result (λ v. IsRead self.now i D.tells (D.seen disk.old (part_file self.now.manifest i)) v.items) }
         ensures looks { OnlyLooks D.Disk disk.old disk.new }
-        ensures later { D.faults disk.old ≤ D.faults disk.new }
         ensures cause { HasReason why_of (on_disk D.Disk disk.old disk.new
             (λ file place kind. (file ≡ part_file self.now.manifest i)
             × (IsTrue D.tells → IsRefused self.now i (D.seen disk.old file) place kind))) result }
@@ -115,7 +113,6 @@ impl Store {
         ensures part { IfOk result (λ p. p ≡ part_of self.now.manifest i p.edges) }
         ensures read { IfOk result (λ p. IsRead self.now i D.tells (D.seen disk.old (part_file self.now.manifest i)) p.edges) }
         ensures looks { OnlyLooks D.Disk disk.old disk.new }
-        ensures later { D.faults disk.old ≤ D.faults disk.new }
         ensures cause { HasReason why_of (on_disk D.Disk disk.old disk.new
             (λ file place kind. (file ≡ part_file self.now.manifest i)
             × (IsTrue D.tells → IsRefused self.now i (D.seen disk.old file) place kind))) result }
@@ -141,7 +138,6 @@ impl Store {
             × IsRead self.now j D.tells (D.seen disk.old (part_file self.now.manifest j)) edges
             × (n ≡ count_below_of self.now.ends i at edges)) }
         ensures looks { OnlyLooks D.Disk disk.old disk.new }
-        ensures later { D.faults disk.old ≤ D.faults disk.new }
         ensures cause { HasReason why_of (on_disk D.Disk disk.old disk.new
             (λ file place kind. (file ≡ part_file self.now.manifest j)
             × (IsTrue D.tells → IsRefused self.now j (D.seen disk.old file) place kind))) result }

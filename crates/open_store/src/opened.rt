@@ -50,7 +50,6 @@ fn store_of<D: Disk>(
     ensures store { IfOk result (λ s. (s.slot ≡ slot) × (s.manifest ≡ manifest) × (s.ends ≡ ends_of manifest)) }
     ensures copy { IsTrue D.tells → IfOk result (λ s. IsCopyRead manifest (D.seen disk.old 2) s.rules) }
     ensures looks { OnlyLooks D.Disk disk.old disk.new }
-    ensures later { D.faults disk.old ≤ D.faults disk.new }
     ensures cause { HasReason why_of (on_disk D.Disk disk.old disk.new
         (λ file place kind. IsTrue D.tells → IsBadCopy slot manifest (D.seen disk.old 2) file place kind)) result }
 {
@@ -69,7 +68,6 @@ fn store_of<D: Disk>(
 fn look<D: Disk>(alloc: Global, disk: &mut D) -> Result<Opened, StoreFault>
     ensures opened { IsTrue D.tells → IfOk result (IsOpened (D.seen disk.old)) }
     ensures looks { OnlyLooks D.Disk disk.old disk.new }
-    ensures later { D.faults disk.old ≤ D.faults disk.new }
     ensures cause { HasReason why_of (on_disk D.Disk disk.old disk.new
         (λ file place kind. IsTrue D.tells → IsBadStore (D.seen disk.old) file place kind)) result }
 {

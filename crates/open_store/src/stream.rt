@@ -43,7 +43,6 @@ impl PartStream {
         requires bounds { expect.lo < expect.hi }
         ensures begun { IfOk result (λ s. (s.file ≡ file) × IsStream s × IsAt expect D.tells (D.seen disk.old file) [] [] s) }
         ensures looks { OnlyLooks D.Disk disk.old disk.new }
-        ensures later { D.faults disk.old ≤ D.faults disk.new }
         ensures cause { HasReason why_of (on_disk D.Disk disk.old disk.new blames_none) result }
     {
         let len = disk.len(file)?;
@@ -81,7 +80,6 @@ impl PartStream {
         ensures file { self.new.file ≡ self.old.file }
         ensures further { result ≡ Ok true → (self.old.place < self.new.place) × (self.new.len ≡ self.old.len) }
         ensures looks { OnlyLooks D.Disk disk.old disk.new }
-        ensures later { D.faults disk.old ≤ D.faults disk.new }
         ensures cause { HasReason why_of (on_disk D.Disk disk.old disk.new (λ file place kind. (file ≡ self.old.file)
             × (IsTrue D.tells → (e : AnExpect) (file bytes : List ℕ) (front : List ABorn)
             → D.seen disk.old self.old.file ≡ file → IsAt e D.tells file bytes

@@ -71,7 +71,6 @@ pub fn answers<D: Disk, O: Sink>(
         → IfOk result (λ n. n ≡ length (answers_in label from to (all_edges parts))) }
 
     ensures looks { OnlyLooks D.Disk disk.old disk.new }
-    ensures later { D.faults disk.old ≤ D.faults disk.new }
     ensures writes { O.faults sink.old ≤ O.faults sink.new }
     ensures cause { HasReason why_not_printed (print_causes (WriteRose O.Sink sink.old sink.new) (DiskRose D.Disk disk.old disk.new)
         (IsBlamed store.now D.tells (D.seen disk.old) (first_asked store.now from) (wanted store.now from))) result }
@@ -102,7 +101,6 @@ pub fn dump<D: Disk, O: Sink>(
         → Takes (O.told sink.old) (O.told sink.new) result (dump_text store.now.manifest.labels (all_edges parts)) }
 
     ensures looks { OnlyLooks D.Disk disk.old disk.new }
-    ensures later { D.faults disk.old ≤ D.faults disk.new }
     ensures writes { O.faults sink.old ≤ O.faults sink.new }
     ensures cause { HasReason why_not_printed (print_causes (WriteRose O.Sink sink.old sink.new) (DiskRose D.Disk disk.old disk.new)
         (IsBlamed store.now D.tells (D.seen disk.old) 0 (length store.now.manifest.parts))) result }

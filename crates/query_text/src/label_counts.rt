@@ -62,7 +62,6 @@ fn count_part<D: Disk>(
     ensures tallied { OnOk result ((read : List (List ABorn)) × AreRead store.now D.tells (D.seen disk.old) 0 read
         × (length read ≡ i + 1) × AreTallied (length store.now.manifest.labels) (all_edges read) counts.new.items) }
     ensures looks { OnlyLooks D.Disk disk.old disk.new }
-    ensures later { D.faults disk.old ≤ D.faults disk.new }
     ensures cause { HasReason why_not_printed (on_disk D.Disk disk.old disk.new
         (IsBlamed store.now D.tells (D.seen disk.old) 0 (length store.now.manifest.parts))) result }
 {
@@ -81,7 +80,6 @@ fn count_labels<D: Disk>(
         × AreRead store.now D.tells (D.seen disk.old) 0 read × (length read ≡ length store.now.manifest.parts)
         × AreTallied (length store.now.manifest.labels) (all_edges read) v.items) }
     ensures looks { OnlyLooks D.Disk disk.old disk.new }
-    ensures later { D.faults disk.old ≤ D.faults disk.new }
     ensures cause { HasReason why_not_printed (on_disk D.Disk disk.old disk.new
         (IsBlamed store.now D.tells (D.seen disk.old) 0 (length store.now.manifest.parts))) result }
 {
@@ -153,7 +151,6 @@ pub fn tally<D: Disk, O: Sink>(
         (tally_text store.now.manifest.labels (all_edges parts)) }
 
     ensures looks { OnlyLooks D.Disk disk.old disk.new }
-    ensures later { D.faults disk.old ≤ D.faults disk.new }
     ensures writes { O.faults sink.old ≤ O.faults sink.new }
     ensures cause { HasReason why_not_printed (print_causes (WriteRose O.Sink sink.old sink.new) (DiskRose D.Disk disk.old disk.new)
         (IsBlamed store.now D.tells (D.seen disk.old) 0 (length store.now.manifest.parts))) result }

@@ -1,5 +1,5 @@
 //! Partitions are loaded.
-ghost use Rattle.std.specs.Prelude.{◌≡◌, ◌<◌, ◌≤◌, IsTrue, IfOk, length};
+ghost use Rattle.std.specs.Prelude.{◌≡◌, ◌<◌, IsTrue, IfOk, length};
 ghost use Rattle.faults.specs.Reasons.{HasReason};
 ghost use Rattle.query_text.specs.Answered.{why_not_printed};
 ghost use Rattle.disk_model.specs.View.{OnlyLooks, on_disk};
@@ -22,7 +22,6 @@ pub(crate) fn load<D: Disk>(
     requires { i < length store.now.manifest.parts }
     ensures read { IfOk result (λ p. IsRead store.now i D.tells (D.seen disk.old (part_file store.now.manifest i)) p.edges) }
     ensures looks { OnlyLooks D.Disk disk.old disk.new }
-    ensures later { D.faults disk.old ≤ D.faults disk.new }
     ensures cause { HasReason why_not_printed (on_disk D.Disk disk.old disk.new
         (λ file place kind. (file ≡ part_file store.now.manifest i)
         × (IsTrue D.tells → IsRefused store.now i (D.seen disk.old file) place kind))) result }

@@ -33,7 +33,6 @@ fn show_part<D: Disk, O: Sink>(
         × IsGathered store.now D.tells (D.seen disk.old) i 1 show.now (O.told sink.old) page.old
         (O.told sink.new) page.new result read }
     ensures looks { OnlyLooks D.Disk disk.old disk.new }
-    ensures later { D.faults disk.old ≤ D.faults disk.new }
     ensures writes { O.faults sink.old ≤ O.faults sink.new }
     ensures cause { HasReason why_not_printed (print_causes (WriteRose O.Sink sink.old sink.new) (DiskRose D.Disk disk.old disk.new)
         (IsBlamed store.now D.tells (D.seen disk.old) i 1)) result }
@@ -61,7 +60,6 @@ fn show_each<D: Disk, O: Sink>(
         × IsGathered store.now D.tells (D.seen disk.old) first (end - first) show.now (O.told sink.old) page.old
         (O.told sink.new) page.new result read }
     ensures looks { OnlyLooks D.Disk disk.old disk.new }
-    ensures later { D.faults disk.old ≤ D.faults disk.new }
     ensures writes { O.faults sink.old ≤ O.faults sink.new }
     ensures cause { HasReason why_not_printed (print_causes (WriteRose O.Sink sink.old sink.new) (DiskRose D.Disk disk.old disk.new)
         (IsBlamed store.now D.tells (D.seen disk.old) first (end - first))) result }
@@ -93,7 +91,6 @@ pub(crate) fn show_parts<D: Disk, O: Sink>(
         (shown_text show.now store.now.manifest.labels) (O.told sink.old) (O.told sink.new) result read
         × IfOk result (λ n. n ≡ length (shown_in show.now store.now.manifest.labels (all_edges read))) }
     ensures looks { OnlyLooks D.Disk disk.old disk.new }
-    ensures later { D.faults disk.old ≤ D.faults disk.new }
     ensures writes { O.faults sink.old ≤ O.faults sink.new }
     ensures cause { HasReason why_not_printed (print_causes (WriteRose O.Sink sink.old sink.new) (DiskRose D.Disk disk.old disk.new)
         (IsBlamed store.now D.tells (D.seen disk.old) first (end - first))) result }

@@ -2,9 +2,8 @@
 use Rattle.std.proofs.Common.{ℕ, ◌≤◌, ◌∙◌, refl, arith}
 use Rattle.disk_model.specs.Disk.{Contents}
 use Rattle.disk_model.specs.Crash.{From, LeavesOnly}
-use Rattle.disk_model.specs.Run.{no_step, then_no_more, then_run}
+use Rattle.disk_model.specs.Run.{no_step, then_run}
 use Rattle.disk_model.specs.OneFile.{OnlyFile}
-use Rattle.disk_model.specs.Looks.{Looks}
 use Rattle.store.specs.NewStore.{IsBeside}
 
 pub beside_refl : (c : Contents) → IsBeside c c
@@ -21,10 +20,6 @@ module _ {D : Type 0} (seen : D → Contents) (moment : D → ℕ) (left_since :
   -- no call yet
   pub nothing : (old : D) → LeavesOnly moment left_since old old (From (images old) IsBeside)
   nothing old = no_step moment left_since images counts_now only_now old IsBeside beside_refl
-
-  -- a look
-  pub looked : (old new : D) → Looks seen images moment left_since old new → LeavesOnly moment left_since old new (From (images old) IsBeside)
-  looked old new looks = then_no_more moment left_since images counts_now only_now old old new (From (images old) IsBeside) (nothing old) looks.time looks.no_more
 
   -- a run more
   pub further : (old mid new : D) → LeavesOnly moment left_since old mid (From (images old) IsBeside) → LeavesOnly moment left_since mid new (From (images mid) IsBeside) → LeavesOnly moment left_since old new (From (images old) IsBeside)

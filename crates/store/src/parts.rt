@@ -39,7 +39,6 @@ fn given_part<D: Disk>(
     ensures given { IsTrue D.tells → IfOk result
         (λ p. AreGiven (normal_form source.now.normal) (graph_in source.now (D.seen disk.old)) span.0 span.1 p.edges) }
     ensures looks { OnlyLooks D.Disk disk.old disk.new }
-    ensures later { D.faults disk.old ≤ D.faults disk.new }
     ensures cause { HasReason why_of (on_disk D.Disk disk.old disk.new (BlamesText (IsTrue D.tells → ⊥) 3)) result }
 {
     given_edges(alloc, disk, &source.copied, &source.normal, span)

@@ -1,7 +1,7 @@
 //! All that a new store has but the slot of its manifest.
 ghost use Rattle.std.specs.Prelude.{◌≡◌, ◌≤◌, ℕ, List, None, IsTrue, IfOk};
 ghost use Rattle.faults.specs.Reasons.{HasReason};
-ghost use Rattle.io_edge.specs.View.{NoCountFalls, ReadRose};
+ghost use Rattle.io_edge.specs.View.{KeepsInputs, ReadRose};
 ghost use Rattle.store_fault.specs.Faults.{why_of};
 ghost use Rattle.disk_model.specs.View.{DiskRose, LeavesBy};
 ghost use Rattle.grammar_norm.specs.GrammarText.{grammar_fault};
@@ -62,8 +62,7 @@ pub(crate) fn prepare<I: Inputs, D: Disk>(
     ensures any_moment { LeavesBy D.Disk disk.old disk.new IsBeside }
     ensures cause { HasReason why_of (import_causes grammar.now (I.told inputs.old edges.now) (IsTrue D.tells)
         (ReadRose I.Inputs inputs.old inputs.new edges.now) (DiskRose D.Disk disk.old disk.new)) result }
-    ensures kept { I.told inputs.new ≡ I.told inputs.old }
-    ensures others { NoCountFalls I.Inputs inputs.old inputs.new }
+    ensures keeps { KeepsInputs I.Inputs inputs.old inputs.new }
     ensures later { D.faults disk.old ≤ D.faults disk.new }
 {
     copies_are_good();

@@ -1,7 +1,7 @@
 //! The two texts of a store are read, checked and copied to the disk.
 ghost use Rattle.std.specs.Prelude.{◌≡◌, ◌≤◌, ℕ, List, None, IsTrue, IfOk, IfErr};
 ghost use Rattle.faults.specs.Reasons.{HasReason};
-ghost use Rattle.io_edge.specs.View.{NoCountFalls, ReadRose};
+ghost use Rattle.io_edge.specs.View.{KeepsInputs, ReadRose};
 ghost use Rattle.store_fault.specs.Faults.{why_of};
 ghost use Rattle.disk_model.specs.View.{DiskRose, LeavesBy};
 ghost use Rattle.grammar_norm.specs.GrammarText.{ReadsGrammar, grammar_fault};
@@ -51,8 +51,7 @@ pub(crate) fn copy_texts<I: Inputs, D: Disk>(
     ensures any_moment { LeavesBy D.Disk disk.old disk.new IsBeside }
     ensures cause { HasReason why_of (import_causes grammar.now (I.told inputs.old edges.now) (IsTrue D.tells)
         (ReadRose I.Inputs inputs.old inputs.new edges.now) (DiskRose D.Disk disk.old disk.new)) result }
-    ensures kept { I.told inputs.new ≡ I.told inputs.old }
-    ensures others { NoCountFalls I.Inputs inputs.old inputs.new }
+    ensures keeps { KeepsInputs I.Inputs inputs.old inputs.new }
     ensures later { D.faults disk.old ≤ D.faults disk.new }
 {
     let (rules, names) = read_good(alloc, grammar)?;

@@ -62,30 +62,30 @@ returns-clause-any_moment g c =
     let D = g.D.Disk in
     let L = g.met.D.Disk in
     let m = c.args.store.now.manifest in
-    further D.seen D.moment D.left_since D.may_leave L.counts_now L.only_now m c.args.disk.now c.load_pair.new.disk c.put_pair.new.disk (looked D.seen D.moment D.left_since D.may_leave L.counts_now L.only_now m c.args.disk.now c.load_pair.new.disk c.load_pair.ensures.looks) c.put_pair.ensures.any_moment
+    further D.seen D.moment D.left_since D.may_leave L.counts_now L.only_now m c.args.disk.now c.load_pair.new.disk c.put_pair.new.disk (looked D.seen D.moment D.left_since D.may_leave L.counts_now L.only_now m c.args.disk.now c.load_pair.new.disk c.load_pair.ensures.looks.time c.load_pair.ensures.looks.no_more) c.put_pair.ensures.any_moment
 
 pub returns-clause-cause : goal.returns-clause-cause
 returns-clause-cause g c =
     let D = g.D.Disk in
-    cause_more (D.faults c.args.disk.now) (D.faults c.load_pair.new.disk) (D.faults c.put_pair.new.disk) _ _ c.put_pair.result c.load_pair.ensures.later (λ f p k none. absurd none) c.put_pair.ensures.cause
+    cause_more (D.faults c.args.disk.now) (D.faults c.load_pair.new.disk) (D.faults c.put_pair.new.disk) _ _ c.put_pair.result c.load_pair.ensures.looks.later (λ f p k none. absurd none) c.put_pair.ensures.cause
 
 pub returns-in_err-ran-clause-any_moment : goal.returns-in_err-ran-clause-any_moment
 returns-in_err-ran-clause-any_moment g c =
     let D = g.D.Disk in
     let L = g.met.D.Disk in
-    looked D.seen D.moment D.left_since D.may_leave L.counts_now L.only_now c.args.store.now.manifest c.args.disk.now c.load_pair.new.disk c.load_pair.ensures.looks
+    looked D.seen D.moment D.left_since D.may_leave L.counts_now L.only_now c.args.store.now.manifest c.args.disk.now c.load_pair.new.disk c.load_pair.ensures.looks.time c.load_pair.ensures.looks.no_more
 
 pub returns-in_err-next-clause-any_moment : goal.returns-in_err-next-clause-any_moment
 returns-in_err-next-clause-any_moment g c =
     let D = g.D.Disk in
     let L = g.met.D.Disk in
-    looked D.seen D.moment D.left_since D.may_leave L.counts_now L.only_now c.args.store.now.manifest c.args.disk.now c.load_pair.new.disk c.load_pair.ensures.looks
+    looked D.seen D.moment D.left_since D.may_leave L.counts_now L.only_now c.args.store.now.manifest c.args.disk.now c.load_pair.new.disk c.load_pair.ensures.looks.time c.load_pair.ensures.looks.no_more
 
 pub returns-in_err-first-clause-any_moment : goal.returns-in_err-first-clause-any_moment
 returns-in_err-first-clause-any_moment g c =
     let D = g.D.Disk in
     let L = g.met.D.Disk in
-    looked D.seen D.moment D.left_since D.may_leave L.counts_now L.only_now c.args.store.now.manifest c.args.disk.now c.load_pair.new.disk c.load_pair.ensures.looks
+    looked D.seen D.moment D.left_since D.may_leave L.counts_now L.only_now c.args.store.now.manifest c.args.disk.now c.load_pair.new.disk c.load_pair.ensures.looks.time c.load_pair.ensures.looks.no_more
 
 pub returns-in_err-first-clause-cause : goal.returns-in_err-first-clause-cause
 returns-in_err-first-clause-cause g c =

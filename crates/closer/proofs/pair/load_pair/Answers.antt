@@ -8,7 +8,7 @@ use Rattle.closer.proofs.pair.load_pair.Goals as goal
 pub returns-in_err-second-clause-cause : goal.returns-in_err-second-clause-cause
 returns-in_err-second-clause-cause g c =
     let D = g.D.Disk in
-    handed (D.faults c.args.disk.now) (D.faults c.load.new.disk) (D.faults c.load-2.new.disk) _ _ c.load-2.result c.from_residual-in_err-second.result c.in_err-second.field-0.0 c.in_err-second.was c.from_residual-in_err-second.ensures.1 c.load.ensures.later
+    handed (D.faults c.args.disk.now) (D.faults c.load.new.disk) (D.faults c.load-2.new.disk) _ _ c.load-2.result c.from_residual-in_err-second.result c.in_err-second.field-0.0 c.in_err-second.was c.from_residual-in_err-second.ensures.1 c.load.ensures.looks.later
     (λ f p k blamed. record {
       partition = c.args.high;
       among = among_second c.args.low c.args.high;

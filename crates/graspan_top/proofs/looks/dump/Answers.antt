@@ -20,7 +20,7 @@ returns-in_err-dump-clause-explained g c = λ told.
     let O = g.O.Sink in
     let x : Given = record { told = told; tells = D.tells; before = D.seen c.args.disk.now } in
     let found = c.in_ok-store.ensures in
-    printing_refused x wants_all IsDone IsUnfinished none_unknown c.in_ok-store.store found.held found.done (O.faults c.args.out.now) (O.faults c.dump.new.sink) (D.faults c.args.disk.now) (D.faults c.finished_store.new.disk) (D.faults c.dump.new.disk) (D.seen c.finished_store.new.disk) c.in_err-dump.field-0.0 c.from_residual-in_err-dump.result c.from_residual-in_err-dump.ensures.1 found.later found.looks.same_seen c.in_err-dump.ensures.cause
+    printing_refused x wants_all IsDone IsUnfinished none_unknown c.in_ok-store.store found.held found.done (O.faults c.args.out.now) (O.faults c.dump.new.sink) (D.faults c.args.disk.now) (D.faults c.finished_store.new.disk) (D.faults c.dump.new.disk) (D.seen c.finished_store.new.disk) c.in_err-dump.field-0.0 c.from_residual-in_err-dump.result c.from_residual-in_err-dump.ensures.1 found.looks.later found.looks.same_seen c.in_err-dump.ensures.cause
 
 pub returns-in_err-dump-clause-printed : goal.returns-in_err-dump-clause-printed
 returns-in_err-dump-clause-printed g c =

@@ -2,7 +2,7 @@ use Rattle.std.proofs.Common.{◌≡◌, Some, inl, subst}
 use Rattle.std.specs.Prelude.{Contains, slice_get}
 use Rattle.faults.specs.Counts.{Rose}
 use Rattle.manifest_codec.specs.declared.types.Manifest.{Manifest}
-use Rattle.open_store.proofs.Looks.{looks_then}
+use Rattle.disk_model.proofs.Looks.{looks_then}
 use Rattle.graspan_top.specs.Given.{Given}
 use Rattle.graspan_top.specs.Looks.{AreVerticesOf, IsKnownIn, IsQueryText, IsUnfinished, IsUnknownIn, wants_one}
 use Rattle.graspan_top.specs.Printed.{IsNothingOr, status_of}
@@ -38,7 +38,7 @@ returns-in_err-print_query-clause-explained g c = λ told.
     let number_is = subst (λ (m : Manifest). slice_get m.labels c.in_ok-number.number.0 ≡ Some a.label.now) c.manifest.ensures.manifest c.in_ok-number.ensures.number in
     let vertices = subst (λ (m : Manifest). AreVerticesOf m a.ends.from a.ends.to) c.manifest-2.ensures.manifest c.in_ok-known.ensures.known in
     let known : IsKnownIn a.label.now a.ends.from a.ends.to c.in_ok-store.store.manifest = record { done = found.done; has_label = has_label c.in_ok-store.store.manifest.labels a.label.now c.in_ok-number.number.0 number_is; vertices = vertices } in
-    printing_refused x (wants_one a.ends.from) (IsKnownIn a.label.now a.ends.from a.ends.to) IsUnfinished (IsUnknownIn a.label.now a.ends.from a.ends.to) c.in_ok-store.store found.held known (O.faults a.out.now) (O.faults c.print_query.new.out) (D.faults a.disk.now) (D.faults c.finished_store.new.disk) (D.faults c.print_query.new.disk) (D.seen c.finished_store.new.disk) c.in_err-print_query.field-0.0 c.from_residual-in_err-print_query.result c.from_residual-in_err-print_query.ensures.1 found.later found.looks.same_seen c.in_err-print_query.ensures.cause
+    printing_refused x (wants_one a.ends.from) (IsKnownIn a.label.now a.ends.from a.ends.to) IsUnfinished (IsUnknownIn a.label.now a.ends.from a.ends.to) c.in_ok-store.store found.held known (O.faults a.out.now) (O.faults c.print_query.new.out) (D.faults a.disk.now) (D.faults c.finished_store.new.disk) (D.faults c.print_query.new.disk) (D.seen c.finished_store.new.disk) c.in_err-print_query.field-0.0 c.from_residual-in_err-print_query.result c.from_residual-in_err-print_query.ensures.1 found.looks.later found.looks.same_seen c.in_err-print_query.ensures.cause
 
 pub returns-in_err-print_query-clause-printed : goal.returns-in_err-print_query-clause-printed
 returns-in_err-print_query-clause-printed g c =
@@ -53,9 +53,7 @@ returns-in_err-print_query-clause-printed g c =
     (query_short c.in_ok-store.store D.tells c.in_ok-number.number a.ends.from a.ends.to c.manifest.ensures.store seen (D.seen c.finished_store.new.disk) found.looks.same_seen found.held a.label.now number_is (told a.out.now) (told c.print_query.new.out) taken.0 c.in_err-print_query.field-0.0 (taken.1, taken.2))
 
 pub returns-in_err-print_query-clause-looks : goal.returns-in_err-print_query-clause-looks
-returns-in_err-print_query-clause-looks g c =
-    let D = g.D.Disk in
-    looks_then D.seen D.may_leave D.moment D.left_since c.args.disk.now c.finished_store.new.disk c.print_query.new.disk c.in_ok-store.ensures.looks c.in_err-print_query.ensures.looks
+returns-in_err-print_query-clause-looks g c = looks_then c.in_ok-store.ensures.looks c.in_err-print_query.ensures.looks
 
 pub returns-clause-explained : goal.returns-clause-explained
 returns-clause-explained g c = λ told t.
@@ -77,9 +75,7 @@ returns-clause-printed g c =
     query_whole c.in_ok-store.store D.tells c.in_ok-number.number a.ends.from a.ends.to c.manifest.ensures.store (D.seen a.disk.now) (D.seen c.finished_store.new.disk) found.looks.same_seen found.held a.label.now number_is (told a.out.now) (told c.print_query.new.out) taken.0 found.done (taken.1, taken.2)
 
 pub returns-clause-looks : goal.returns-clause-looks
-returns-clause-looks g c =
-    let D = g.D.Disk in
-    looks_then D.seen D.may_leave D.moment D.left_since c.args.disk.now c.finished_store.new.disk c.print_query.new.disk c.in_ok-store.ensures.looks c.in_ok-print_query.ensures.looks
+returns-clause-looks g c = looks_then c.in_ok-store.ensures.looks c.in_ok-print_query.ensures.looks
 
 pub returns-in_err-store-clause-begun : goal.returns-in_err-store-clause-begun
 returns-in_err-store-clause-begun g c =

@@ -66,7 +66,7 @@ returns-in_err-compare-in-Found-clause-stops g c =
     let L = g.met.D.Disk in
     stops_looking D.seen D.may_leave D.moment D.left_since L.counts_now L.only_now (g.I.Inputs.told c.args.inputs.now) c.args.files.now.edges.now c.args.files.now.grammar.now c.args.disk.now c.open.new.disk c.compare.new.disk
     (stops_opening D.seen D.may_leave D.moment D.left_since L.counts_now L.only_now (g.I.Inputs.told c.args.inputs.now) c.args.files.now.edges.now c.args.files.now.grammar.now c.args.disk.now c.open.new.disk c.open.ensures.any_moment)
-    c.compare.ensures.looks
+    c.compare.ensures.looks.time c.compare.ensures.looks.no_more
 
 pub returns-in_ok-compare-in-Found-clause-stops : goal.returns-in_ok-compare-in-Found-clause-stops
 returns-in_ok-compare-in-Found-clause-stops g c =
@@ -74,7 +74,7 @@ returns-in_ok-compare-in-Found-clause-stops g c =
     let L = g.met.D.Disk in
     stops_looking D.seen D.may_leave D.moment D.left_since L.counts_now L.only_now (g.I.Inputs.told c.args.inputs.now) c.args.files.now.edges.now c.args.files.now.grammar.now c.args.disk.now c.open.new.disk c.compare.new.disk
     (stops_opening D.seen D.may_leave D.moment D.left_since L.counts_now L.only_now (g.I.Inputs.told c.args.inputs.now) c.args.files.now.edges.now c.args.files.now.grammar.now c.args.disk.now c.open.new.disk c.open.ensures.any_moment)
-    c.compare.ensures.looks
+    c.compare.ensures.looks.time c.compare.ensures.looks.no_more
 
 pub returns-in-Blank-clause-stops : goal.returns-in-Blank-clause-stops
 returns-in-Blank-clause-stops g c =

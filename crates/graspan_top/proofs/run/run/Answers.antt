@@ -95,4 +95,4 @@ pub returns-clause-stops : goal.returns-clause-stops
 returns-clause-stops g c =
     let D = g.D.Disk in
     let L = g.met.D.Disk in
-    stops_looking D.seen D.may_leave D.moment D.left_since L.counts_now L.only_now (g.I.Inputs.told c.args.inputs.now) c.args.files.now.edges.now c.args.files.now.grammar.now c.args.disk.now c.closed_store.new.disk c.show_run.new.disk c.closed_store.ensures.stops c.show_run.ensures.looks
+    stops_looking D.seen D.may_leave D.moment D.left_since L.counts_now L.only_now (g.I.Inputs.told c.args.inputs.now) c.args.files.now.edges.now c.args.files.now.grammar.now c.args.disk.now c.closed_store.new.disk c.show_run.new.disk c.closed_store.ensures.stops c.show_run.ensures.looks.time c.show_run.ensures.looks.no_more

@@ -4,7 +4,8 @@ use Rattle.edge_text.specs.EdgesText.{edges_fault}
 use Rattle.edge_text.proofs.FeedLemmas.{reads_fault, reads_all}
 use Rattle.disk_model.specs.Disk.{Contents, Reads}
 use Rattle.normal_law.specs.NormalForm.{normal_form}
-use Rattle.import_text.proofs.ReadLemmas.{copy_cause, looks_none, looks_then, gives_from_reads, gathering_start, gathering_on, gathering_ends}
+use Rattle.disk_model.proofs.Looks.{looks_same, looks_then}
+use Rattle.import_text.proofs.ReadLemmas.{copy_cause, gives_from_reads, gathering_start, gathering_on, gathering_ends}
 use Rattle.import_text.proofs.given_part.gather_pieces.Goals as goal
 
 pub loop-n-init : goal.loop-n-init
@@ -14,8 +15,7 @@ loop-n-init g c =
       place = c.requires.new.0;
       short = omega arith;
       names = c.requires.names;
-      later = omega arith;
-      looks = looks_none g.D.Disk.seen g.D.Disk.may_leave g.D.Disk.moment g.D.Disk.left_since c.args.disk.now;
+      looks = looks_same;
       gathering = ([], [], gathering_start (normal_form c.args.normal.now) _ c.args.gathering.now c.requires.new.0);
     }
 
@@ -41,8 +41,7 @@ loop-n-preserved g c =
       place = omega (arith, t.place, read, c.loop-n.invariant.place);
       short = omega (arith, t.place, read, c.loop-n.invariant.place, t.short (omega (arith, c.loop-n.invariant.place, c.loop-n.invariant.short)));
       names = t.names;
-      later = omega (arith, c.loop-n.invariant.later, c.in_ok-n.ensures.cause.later);
-      looks = looks_then g.D.Disk.seen g.D.Disk.may_leave g.D.Disk.moment g.D.Disk.left_since c.args.disk.now c.loop-n.disk c.read.new.self c.loop-n.invariant.looks (record { same_seen = c.read.ensures.seen; no_more = c.read.ensures.crash; no_less = c.read.ensures.same; past = c.read.ensures.past; time = c.read.ensures.time });
+      looks = looks_then c.loop-n.invariant.looks (record { same_seen = c.read.ensures.seen; no_more = c.read.ensures.crash; no_less = c.read.ensures.same; past = c.read.ensures.past; time = c.read.ensures.time; later = c.read.ensures.cause.later });
       gathering = (
         gathering.0 ++ take c.in_ok-n.n c.read.new.buf,
         gathering.1 ++ t.found,

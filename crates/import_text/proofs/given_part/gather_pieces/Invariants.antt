@@ -2,7 +2,7 @@ use Rattle.std.proofs.Common.{◌≡◌, ℕ, ◌+◌, ◌-◌, ◌^◌, ◌≤�
 use Rattle.std.specs.Prelude.{IsTrue}
 use Rattle.graph_words.specs.declared.types.Edge.{Edge}
 use Rattle.normal_law.specs.NormalForm.{normal_form}
-use Rattle.disk_model.specs.Looks.{Looks}
+use Rattle.disk_model.specs.View.{OnlyLooks}
 use Rattle.import_text.proofs.ReadLemmas.{IsGathering}
 use Rattle.graph_words.specs.declared.limits.TheConstants.{LONGEST_EDGES}
 use Rattle.import_text.proofs.given_part.gather_pieces.Given as goal
@@ -14,8 +14,7 @@ invariant-loop-n g l =
       place : l.gathering.reader.place ≡ l.place;
       short : l.place ≤ LONGEST_EDGES + 4097;
       names : length l.gathering.reader.table ≤ 1000;
-      later : g.D.Disk.faults l.initial.disk ≤ g.D.Disk.faults l.disk;
-      looks : Looks g.D.Disk.seen g.D.Disk.may_leave g.D.Disk.moment g.D.Disk.left_since l.initial.disk l.disk;
+      looks : OnlyLooks g.D.Disk l.initial.disk l.disk;
       gathering : (text : List ℕ) × (found : List Edge) × IsGathering (normal_form l.normal) (λ f. IsTrue g.D.Disk.tells × (f ≡ g.D.Disk.seen l.initial.disk l.file)) l.fn.gathering l.gathering text found;
     }
 

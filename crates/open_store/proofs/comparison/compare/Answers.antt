@@ -2,9 +2,9 @@ use Rattle.std.proofs.Common.{◌≡◌, ◌≢◌, ◌<◌, ◌≤◌, ◌+◌,
 use Rattle.std.specs.Prelude.{Bool, true, false, Ok, Err, IsTrue, Result, Option, Some, None}
 use Rattle.io_edge.specs.Devices.{Gives}
 use Rattle.disk_model.specs.Disk.{Contents}
-use Rattle.disk_model.specs.Looks.{Looks}
 use Rattle.open_store.specs.Answers.{DiffersFirst}
-use Rattle.open_store.proofs.Looks.{looks_same, looks_then}
+use Rattle.io_edge.proofs.DeviceLemmas.{keeps_same, keeps_then}
+use Rattle.disk_model.proofs.Looks.{looks_same, looks_then}
 use Rattle.open_store.proofs.Differences.{copy_is_shorter, differs_at, same_further, same_whole, text_ended, text_is_shorter}
 use Rattle.open_store.proofs.comparison.compare.Goals as goal
 
@@ -22,11 +22,12 @@ loop-copy-init g c =
       text_room = omega (arith, c.in_ok-text.ensures.len, c.in_ok-text.text.ok);
       copy_room = omega (arith, c.in_ok-copy.ensures.len, c.in_ok-copy.copy.ok);
       same = λ text told tells. refl;
-      looks = looks_same D.seen D.may_leave D.moment D.left_since c.args.disk.now;
-      kept = refl;
-      others = λ other. omega arith;
-      later = omega arith;
+      looks = looks_same;
+      keeps = keeps_same;
     }
+
+pub returns-in_err-n-clause-keeps : goal.returns-in_err-n-clause-keeps
+returns-in_err-n-clause-keeps g c = keeps_then c.loop-copy.invariant.keeps c.next_piece.ensures.keeps
 
 pub returns-then-place-len-clause-same : goal.returns-then-place-len-clause-same
 returns-then-place-len-clause-same g c = λ is text told tells.
@@ -37,7 +38,7 @@ returns-then-place-len-clause-same g c = λ is text told tells.
     let len = c.args.len in
     let file = D.seen c.args.disk.now c.args.file in
     let name = c.args.name.now in
-    let gives : (text : List ℕ) → I.told c.args.inputs.now name ≡ Some text → Gives text place c.next_piece.new.piece.items c.in_ok-n.n = λ text told. c.in_ok-n.ensures.bytes text ((λ k. inv.kept k name) ∙ told) in
+    let gives : (text : List ℕ) → I.told c.args.inputs.now name ≡ Some text → Gives text place c.next_piece.new.piece.items c.in_ok-n.n = λ text told. c.in_ok-n.ensures.bytes text ((λ k. inv.keeps.kept k name) ∙ told) in
     let none = c.behind.ensures.none (ok_is _ _ is) in
     same_whole text file place len (inv.same text told tells) (text_ended text place c.next_piece.new.piece.items c.in_ok-n.n (omega (arith, c.next_piece.ensures.piece)) none (gives text told)) c.if-place-len.true
 
@@ -50,20 +51,12 @@ returns-then-place-len-clause-differ g c = λ p is text told tells.
     let len = c.args.len in
     let file = D.seen c.args.disk.now c.args.file in
     let name = c.args.name.now in
-    let gives : (text : List ℕ) → I.told c.args.inputs.now name ≡ Some text → Gives text place c.next_piece.new.piece.items c.in_ok-n.n = λ text told. c.in_ok-n.ensures.bytes text ((λ k. inv.kept k name) ∙ told) in
+    let gives : (text : List ℕ) → I.told c.args.inputs.now name ≡ Some text → Gives text place c.next_piece.new.piece.items c.in_ok-n.n = λ text told. c.in_ok-n.ensures.bytes text ((λ k. inv.keeps.kept k name) ∙ told) in
     let some = c.behind.ensures.some p (ok_is _ _ is) in
     subst (DiffersFirst text (take len file)) (sym some.0) (copy_is_shorter text file place len (inv.same text told tells) (omega (arith, (gives text told).within, some.1)) c.if-place-len.true)
 
-pub returns-then-place-len-clause-others : goal.returns-then-place-len-clause-others
-returns-then-place-len-clause-others g c =
-    let D = g.D.Disk in
-    let I = g.I.Inputs in
-    let inv = c.loop-copy.invariant in
-    let place = c.loop-copy.place in
-    let len = c.args.len in
-    let file = D.seen c.args.disk.now c.args.file in
-    let name = c.args.name.now in
-    λ other. omega (arith, inv.others other, c.next_piece.ensures.others other)
+pub returns-then-place-len-clause-keeps : goal.returns-then-place-len-clause-keeps
+returns-then-place-len-clause-keeps g c = keeps_then c.loop-copy.invariant.keeps c.next_piece.ensures.keeps
 
 pub returns-then-n-eq0-clause-differ : goal.returns-then-n-eq0-clause-differ
 returns-then-n-eq0-clause-differ g c = λ p is text told tells.
@@ -74,43 +67,19 @@ returns-then-n-eq0-clause-differ g c = λ p is text told tells.
     let len = c.args.len in
     let file = D.seen c.args.disk.now c.args.file in
     let name = c.args.name.now in
-    let gives : (text : List ℕ) → I.told c.args.inputs.now name ≡ Some text → Gives text place c.next_piece.new.piece.items c.in_ok-n.n = λ text told. c.in_ok-n.ensures.bytes text ((λ k. inv.kept k name) ∙ told) in
+    let gives : (text : List ℕ) → I.told c.args.inputs.now name ≡ Some text → Gives text place c.next_piece.new.piece.items c.in_ok-n.n = λ text told. c.in_ok-n.ensures.bytes text ((λ k. inv.keeps.kept k name) ∙ told) in
     let at : place ≡ p = some_is place p (ok_is _ _ is) in
     subst (DiffersFirst text (take len file)) at
     (text_is_shorter text file place len (inv.same text told tells) (text_ended text place c.next_piece.new.piece.items c.in_ok-n.n (omega (arith, c.next_piece.ensures.piece)) c.if-n-eq0.true (gives text told)) (omega (arith, inv.place, c.if-place-len.false)) (c.requires.long tells))
 
-pub returns-then-n-eq0-clause-others : goal.returns-then-n-eq0-clause-others
-returns-then-n-eq0-clause-others g c =
-    let D = g.D.Disk in
-    let I = g.I.Inputs in
-    let inv = c.loop-copy.invariant in
-    let place = c.loop-copy.place in
-    let len = c.args.len in
-    let file = D.seen c.args.disk.now c.args.file in
-    let name = c.args.name.now in
-    λ other. omega (arith, inv.others other, c.next_piece.ensures.others other)
+pub returns-then-n-eq0-clause-keeps : goal.returns-then-n-eq0-clause-keeps
+returns-then-n-eq0-clause-keeps g c = keeps_then c.loop-copy.invariant.keeps c.next_piece.ensures.keeps
 
 pub returns-in_err-same-clause-looks : goal.returns-in_err-same-clause-looks
-returns-in_err-same-clause-looks g c =
-    let D = g.D.Disk in
-    let I = g.I.Inputs in
-    let inv = c.loop-copy.invariant in
-    let place = c.loop-copy.place in
-    let len = c.args.len in
-    let file = D.seen c.args.disk.now c.args.file in
-    let name = c.args.name.now in
-    looks_then D.seen D.may_leave D.moment D.left_since c.args.disk.now c.loop-copy.disk c.same_piece.new.disk inv.looks c.same_piece.ensures.looks
+returns-in_err-same-clause-looks g c = looks_then c.loop-copy.invariant.looks c.same_piece.ensures.looks
 
-pub returns-in_err-same-clause-others : goal.returns-in_err-same-clause-others
-returns-in_err-same-clause-others g c =
-    let D = g.D.Disk in
-    let I = g.I.Inputs in
-    let inv = c.loop-copy.invariant in
-    let place = c.loop-copy.place in
-    let len = c.args.len in
-    let file = D.seen c.args.disk.now c.args.file in
-    let name = c.args.name.now in
-    λ other. omega (arith, inv.others other, c.next_piece.ensures.others other)
+pub returns-in_err-same-clause-keeps : goal.returns-in_err-same-clause-keeps
+returns-in_err-same-clause-keeps g c = keeps_then c.loop-copy.invariant.keeps c.next_piece.ensures.keeps
 
 pub returns-then-differ-clause-differ : goal.returns-then-differ-clause-differ
 returns-then-differ-clause-differ g c = λ p is text told tells.
@@ -121,7 +90,7 @@ returns-then-differ-clause-differ g c = λ p is text told tells.
     let len = c.args.len in
     let file = D.seen c.args.disk.now c.args.file in
     let name = c.args.name.now in
-    let gives : (text : List ℕ) → I.told c.args.inputs.now name ≡ Some text → Gives text place c.next_piece.new.piece.items c.in_ok-n.n = λ text told. c.in_ok-n.ensures.bytes text ((λ k. inv.kept k name) ∙ told) in
+    let gives : (text : List ℕ) → I.told c.args.inputs.now name ≡ Some text → Gives text place c.next_piece.new.piece.items c.in_ok-n.n = λ text told. c.in_ok-n.ensures.bytes text ((λ k. inv.keeps.kept k name) ∙ told) in
     let n = c.in_ok-n.n in
     let same = c.in_ok-same.same in
     let piece = c.next_piece.new.piece.items in
@@ -137,26 +106,10 @@ returns-then-differ-clause-differ g c = λ p is text told tells.
     (λ like. unlike.2 (ap (λ (l : List ℕ). get_or (take n l) same 0) given ∙ like ∙ ap (λ (x : Contents). get_or (drop place (x c.args.file)) same 0) (sym inv.looks.same_seen))))
 
 pub returns-then-differ-clause-looks : goal.returns-then-differ-clause-looks
-returns-then-differ-clause-looks g c =
-    let D = g.D.Disk in
-    let I = g.I.Inputs in
-    let inv = c.loop-copy.invariant in
-    let place = c.loop-copy.place in
-    let len = c.args.len in
-    let file = D.seen c.args.disk.now c.args.file in
-    let name = c.args.name.now in
-    looks_then D.seen D.may_leave D.moment D.left_since c.args.disk.now c.loop-copy.disk c.same_piece.new.disk inv.looks c.same_piece.ensures.looks
+returns-then-differ-clause-looks g c = looks_then c.loop-copy.invariant.looks c.same_piece.ensures.looks
 
-pub returns-then-differ-clause-others : goal.returns-then-differ-clause-others
-returns-then-differ-clause-others g c =
-    let D = g.D.Disk in
-    let I = g.I.Inputs in
-    let inv = c.loop-copy.invariant in
-    let place = c.loop-copy.place in
-    let len = c.args.len in
-    let file = D.seen c.args.disk.now c.args.file in
-    let name = c.args.name.now in
-    λ other. omega (arith, inv.others other, c.next_piece.ensures.others other)
+pub returns-then-differ-clause-keeps : goal.returns-then-differ-clause-keeps
+returns-then-differ-clause-keeps g c = keeps_then c.loop-copy.invariant.keeps c.next_piece.ensures.keeps
 
 pub loop-copy-preserved : goal.loop-copy-preserved
 loop-copy-preserved g c =
@@ -167,7 +120,7 @@ loop-copy-preserved g c =
     let len = c.args.len in
     let file = D.seen c.args.disk.now c.args.file in
     let name = c.args.name.now in
-    let gives : (text : List ℕ) → I.told c.args.inputs.now name ≡ Some text → Gives text place c.next_piece.new.piece.items c.in_ok-n.n = λ text told. c.in_ok-n.ensures.bytes text ((λ k. inv.kept k name) ∙ told) in
+    let gives : (text : List ℕ) → I.told c.args.inputs.now name ≡ Some text → Gives text place c.next_piece.new.piece.items c.in_ok-n.n = λ text told. c.in_ok-n.ensures.bytes text ((λ k. inv.keeps.kept k name) ∙ told) in
     let n = c.in_ok-n.n in
     let same = c.in_ok-same.same in
     let piece = c.next_piece.new.piece.items in
@@ -181,8 +134,6 @@ loop-copy-preserved g c =
       text_room = c.next_piece.ensures.piece;
       copy_room = c.same_piece.ensures.copy;
       same = front;
-      looks = looks_then D.seen D.may_leave D.moment D.left_since c.args.disk.now c.loop-copy.disk c.same_piece.new.disk inv.looks c.same_piece.ensures.looks;
-      kept = c.next_piece.ensures.kept ∙ inv.kept;
-      others = λ other. omega (arith, inv.others other, c.next_piece.ensures.others other);
-      later = omega (arith, inv.later, c.same_piece.ensures.cause.later);
+      looks = looks_then inv.looks c.same_piece.ensures.looks;
+      keeps = keeps_then inv.keeps c.next_piece.ensures.keeps;
     }

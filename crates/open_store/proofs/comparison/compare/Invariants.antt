@@ -1,5 +1,6 @@
 use Rattle.std.proofs.Common.{◌≡◌, ◌<◌, ◌≤◌, ◌-◌, ℕ, List, IsTrue, Some, length, take}
-use Rattle.disk_model.specs.Looks.{Looks}
+use Rattle.io_edge.specs.View.{KeepsInputs}
+use Rattle.disk_model.specs.View.{OnlyLooks}
 use Rattle.open_store.proofs.comparison.compare.Given as goal
 
 abbrev pub invariant-loop-copy : goal.invariant-loop-copy
@@ -11,10 +12,8 @@ invariant-loop-copy g l =
       text_room : length l.text.items ≡ 65536;
       copy_room : 0 < length l.copy.items;
       same : (text : List ℕ) → I.told l.fn.inputs l.name ≡ Some text → IsTrue D.tells → take l.place text ≡ take l.place (take l.len (D.seen l.fn.disk l.file));
-      looks : Looks D.seen D.may_leave D.moment D.left_since l.fn.disk l.disk;
-      kept : I.told l.inputs ≡ I.told l.fn.inputs;
-      others : (other : List ℕ) → I.faults l.fn.inputs other ≤ I.faults l.inputs other;
-      later : D.faults l.fn.disk ≤ D.faults l.disk;
+      looks : OnlyLooks D l.fn.disk l.disk;
+      keeps : KeepsInputs I l.fn.inputs l.inputs;
     }
 
 abbrev pub decreases-loop-copy : goal.decreases-loop-copy

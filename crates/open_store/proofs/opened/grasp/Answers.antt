@@ -1,6 +1,7 @@
 use Rattle.std.proofs.Common.{◌≡◌, ◌≢◌, ℕ, ◌≤◌, List, refl, sym, ap, subst, ◌∙◌, arith}
 use Rattle.std.specs.Prelude.{Result, Ok, Err}
 use Rattle.disk_model.specs.Disk.{Contents}
+use Rattle.disk_model.specs.Run.{then_no_more}
 use Rattle.manifest_switch.specs.declared.slot.Found.{Found}
 use Rattle.manifest_switch.specs.declared.slot.Found.TheVariants.{At, Blank}
 use Rattle.manifest_switch.specs.declared.slot.OpenFault.{OpenFault}
@@ -13,8 +14,7 @@ use Rattle.manifest_switch.proofs.SwitchLemmas.{current_alike}
 use Rattle.open_store.proofs.Causes.{handed}
 use Rattle.manifest_switch.specs.declared.slot.Slot.{Slot}
 use Rattle.manifest_switch.specs.declared.slot.Slot.TheVariants.{Zero, One}
-use Rattle.open_store.proofs.Looks.{looks_then}
-use Rattle.open_store.proofs.Slots.{blank_alike, found_handed, looked, stays_keeps, stays_refl, then_closed, then_looked}
+use Rattle.open_store.proofs.Slots.{blank_alike, found_handed, looked, stays_keeps, stays_refl, then_closed}
 use Rattle.open_store.proofs.opened.grasp.Goals as goal
 
 not_two : (s : Slot) → 2 ≢ file_of s
@@ -46,26 +46,26 @@ pub returns-in_err-close_other-in-At-clause-any_moment : goal.returns-in_err-clo
 returns-in_err-close_other-in-At-clause-any_moment g c =
     let D = g.D.Disk in
     let L = g.met.D.Disk in
-    then_closed D.seen D.moment D.left_since D.may_leave L.counts_now L.only_now c.args.disk.now c.current.new.disk c.close_other.new.disk (other c.in-At.slot) c.current.ensures.looks c.close_other.ensures.any_moment
+    then_closed D.seen D.moment D.left_since D.may_leave L.counts_now L.only_now c.args.disk.now c.current.new.disk c.close_other.new.disk (other c.in-At.slot) c.current.ensures.looks.time c.current.ensures.looks.no_more c.close_other.ensures.any_moment
 
 pub returns-in_err-store_of-in-At-clause-any_moment : goal.returns-in_err-store_of-in-At-clause-any_moment
 returns-in_err-store_of-in-At-clause-any_moment g c =
     let D = g.D.Disk in
     let L = g.met.D.Disk in
-    then_looked D.seen D.moment D.left_since D.may_leave L.counts_now L.only_now c.args.disk.now c.close_other.new.disk c.store_of.new.disk
-    (then_closed D.seen D.moment D.left_since D.may_leave L.counts_now L.only_now c.args.disk.now c.current.new.disk c.close_other.new.disk (other c.in-At.slot) c.current.ensures.looks c.close_other.ensures.any_moment) c.store_of.ensures.looks
+    then_no_more D.moment D.left_since D.may_leave L.counts_now L.only_now c.args.disk.now c.close_other.new.disk c.store_of.new.disk _
+    (then_closed D.seen D.moment D.left_since D.may_leave L.counts_now L.only_now c.args.disk.now c.current.new.disk c.close_other.new.disk (other c.in-At.slot) c.current.ensures.looks.time c.current.ensures.looks.no_more c.close_other.ensures.any_moment) c.store_of.ensures.looks.time c.store_of.ensures.looks.no_more
 
 pub returns-in_ok-store_of-in-At-clause-any_moment : goal.returns-in_ok-store_of-in-At-clause-any_moment
 returns-in_ok-store_of-in-At-clause-any_moment g c =
     let D = g.D.Disk in
     let L = g.met.D.Disk in
-    then_looked D.seen D.moment D.left_since D.may_leave L.counts_now L.only_now c.args.disk.now c.close_other.new.disk c.store_of.new.disk
-    (then_closed D.seen D.moment D.left_since D.may_leave L.counts_now L.only_now c.args.disk.now c.current.new.disk c.close_other.new.disk (other c.in-At.slot) c.current.ensures.looks c.close_other.ensures.any_moment) c.store_of.ensures.looks
+    then_no_more D.moment D.left_since D.may_leave L.counts_now L.only_now c.args.disk.now c.close_other.new.disk c.store_of.new.disk _
+    (then_closed D.seen D.moment D.left_since D.may_leave L.counts_now L.only_now c.args.disk.now c.current.new.disk c.close_other.new.disk (other c.in-At.slot) c.current.ensures.looks.time c.current.ensures.looks.no_more c.close_other.ensures.any_moment) c.store_of.ensures.looks.time c.store_of.ensures.looks.no_more
 
 pub returns-in_err-store_of-in-At-clause-cause : goal.returns-in_err-store_of-in-At-clause-cause
 returns-in_err-store_of-in-At-clause-cause g c =
     let D = g.D.Disk in
-    let later : D.faults c.args.disk.now ≤ D.faults c.close_other.new.disk = omega (arith, c.current.ensures.later, c.close_other.ensures.cause.later) in
+    let later : D.faults c.args.disk.now ≤ D.faults c.close_other.new.disk = omega (arith, c.current.ensures.looks.later, c.close_other.ensures.cause.later) in
     handed (D.faults c.args.disk.now) (D.faults c.close_other.new.disk) (D.faults c.store_of.new.disk) _ _ c.store_of.result c.from_residual-in_err-store_of-in-At.result c.in_err-store_of-in-At.field-0.0 c.in_err-store_of-in-At.was c.from_residual-in_err-store_of-in-At.ensures.1 later
     (λ f p k bad tells.
     IsBadStore.copy_breaks c.in-At.slot c.in-At.manifest (c.in_ok-current.ensures.found tells ∙ ap (λ (x : Found). Ok x) c.in-At.is)

@@ -20,7 +20,7 @@ returns-in_err-current-clause-cause g c =
 pub returns-in_err-store_of-in-At-clause-cause : goal.returns-in_err-store_of-in-At-clause-cause
 returns-in_err-store_of-in-At-clause-cause g c =
     let D = g.D.Disk in
-    handed (D.faults c.args.disk.now) (D.faults c.current.new.disk) (D.faults c.store_of.new.disk) _ _ c.store_of.result c.from_residual-in_err-store_of-in-At.result c.in_err-store_of-in-At.field-0.0 c.in_err-store_of-in-At.was c.from_residual-in_err-store_of-in-At.ensures.1 c.current.ensures.later
+    handed (D.faults c.args.disk.now) (D.faults c.current.new.disk) (D.faults c.store_of.new.disk) _ _ c.store_of.result c.from_residual-in_err-store_of-in-At.result c.in_err-store_of-in-At.field-0.0 c.in_err-store_of-in-At.was c.from_residual-in_err-store_of-in-At.ensures.1 c.current.ensures.looks.later
     (λ f p k bad tells.
     IsBadStore.copy_breaks c.in-At.slot c.in-At.manifest (c.in_ok-current.ensures.found tells ∙ ap (λ (x : Found). Ok x) c.in-At.is)
     (subst (λ (x : Contents). IsBadCopy c.in-At.slot c.in-At.manifest (x 2) f p k) c.in_ok-current.ensures.looks.same_seen (bad tells)))

@@ -1,7 +1,7 @@
 use Rattle.std.proofs.Common.{◌≡◌, ◌≤◌, List, length}
 use Rattle.graph_words.specs.declared.types.Born.{Born}
 use Rattle.closing_machine.specs.Parts.{all_edges}
-use Rattle.disk_model.specs.Looks.{Looks}
+use Rattle.disk_model.specs.View.{OnlyLooks}
 use Rattle.query_text.specs.Answered.{AreRead}
 use Rattle.query_text.specs.Shown.{AreTallied}
 use Rattle.query_text.proofs.label_counts.count_labels.Given as goal
@@ -12,6 +12,5 @@ invariant-loop-i g l =
     record {
       tallied : (read : List (List Born)) × AreRead l.store D.tells (D.seen l.fn.disk) 0 read × (length read ≡ l.i) × AreTallied (length l.store.manifest.labels) (all_edges read) l.counts.items;
       within : l.i ≤ length l.store.manifest.parts;
-      looks : Looks D.seen D.may_leave D.moment D.left_since l.fn.disk l.disk;
-      later : D.faults l.fn.disk ≤ D.faults l.disk;
+      looks : OnlyLooks D l.fn.disk l.disk;
     }

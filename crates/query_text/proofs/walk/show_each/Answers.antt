@@ -1,5 +1,5 @@
 use Rattle.std.proofs.Common.{◌≡◌, ℕ, [], ◌++◌, ◌+◌, ◌-◌, arith}
-use Rattle.open_store.proofs.Looks.{looks_same, looks_then}
+use Rattle.disk_model.proofs.Looks.{looks_same, looks_then}
 use Rattle.query_text.specs.Answered.{IsBlamed}
 use Rattle.query_text.proofs.Showing.{cause_handed_on, gathered_fits, gathered_none, handed_on, walk_blames, walk_failed, walk_on}
 use Rattle.query_text.proofs.walk.show_each.Goals as goal
@@ -13,8 +13,7 @@ loop-i-init g c =
       gathered = ([], rw none (gathered_none c.args.store.now D.tells (D.seen c.args.disk.now) c.args.show.now c.args.first (told c.args.sink.now) c.args.page.now (omega (arith, c.requires.order, c.requires.there))));
       from = omega arith;
       within = c.requires.order;
-      looks = looks_same D.seen D.may_leave D.moment D.left_since c.args.disk.now;
-      later = omega arith;
+      looks = looks_same;
       writes = omega arith;
     }
 
@@ -38,7 +37,7 @@ returns-in_err-shown-clause-cause g c =
     let r = c.from_residual.result in
     let inv = c.loop-i.invariant in
     let s = c.args.store.now in
-    cause_handed_on (faults c.args.sink.now) (faults c.loop-i.sink) (faults c.show_part.new.sink) (D.faults c.args.disk.now) (D.faults c.loop-i.disk) (D.faults c.show_part.new.disk) (IsBlamed s D.tells (D.seen c.loop-i.disk) c.loop-i.i 1) (IsBlamed s D.tells (D.seen c.args.disk.now) c.args.first (c.args.end - c.args.first)) ℕ f r (handed_on ℕ r f c.from_residual.ensures.1) inv.writes inv.later
+    cause_handed_on (faults c.args.sink.now) (faults c.loop-i.sink) (faults c.show_part.new.sink) (D.faults c.args.disk.now) (D.faults c.loop-i.disk) (D.faults c.show_part.new.disk) (IsBlamed s D.tells (D.seen c.loop-i.disk) c.loop-i.i 1) (IsBlamed s D.tells (D.seen c.args.disk.now) c.args.first (c.args.end - c.args.first)) ℕ f r (handed_on ℕ r f c.from_residual.ensures.1) inv.writes inv.looks.later
     (λ file place kind b. walk_blames s D.tells c.args.show.now (D.seen c.args.disk.now) (D.seen c.loop-i.disk) c.args.first c.loop-i.i c.args.end file place kind inv.gathered.0 inv.looks.same_seen inv.from c.loop-i-test.true inv.gathered.1.are_read inv.gathered.1.all b)
     c.in_err-shown.ensures.cause
 
@@ -64,7 +63,6 @@ loop-i-preserved g c =
       gathered = (inv.gathered.0 ++ next.0, walk_on s D.tells c.args.show.now (D.seen c.args.disk.now) (D.seen c.loop-i.disk) c.args.first c.loop-i.i c.loop-i.shown c.in_ok-shown.field-0 (told c.args.sink.now) (told c.loop-i.sink) (told c.show_part.new.sink) c.args.page.now c.loop-i.page c.show_part.new.page inv.gathered.0 next.0 inv.looks.same_seen inv.from inv.gathered.1 next.1);
       from = omega (arith, inv.from);
       within = omega (arith, c.loop-i-test.true);
-      looks = looks_then D.seen D.may_leave D.moment D.left_since c.args.disk.now c.loop-i.disk c.show_part.new.disk inv.looks e.looks;
-      later = omega (arith, inv.later, e.later);
+      looks = looks_then inv.looks e.looks;
       writes = omega (arith, inv.writes, e.writes);
     }

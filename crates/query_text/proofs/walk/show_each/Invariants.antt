@@ -1,7 +1,7 @@
 use Rattle.std.proofs.Common.{◌-◌, ◌≤◌, List}
 use Rattle.std.specs.Prelude.{Ok}
 use Rattle.graph_words.specs.declared.types.Born.{Born}
-use Rattle.disk_model.specs.Looks.{Looks}
+use Rattle.disk_model.specs.View.{OnlyLooks}
 use Rattle.query_text.specs.Shown.{IsGathered}
 use Rattle.query_text.proofs.walk.show_each.Given as goal
 
@@ -13,7 +13,6 @@ invariant-loop-i g l =
       gathered : (read : List (List Born)) × IsGathered l.store D.tells (D.seen l.initial.disk) l.first (l.i - l.first) l.show (O.told l.initial.sink) l.initial.page (O.told l.sink) l.page (Ok l.shown) read;
       from : l.first ≤ l.i;
       within : l.i ≤ l.end;
-      looks : Looks D.seen D.may_leave D.moment D.left_since l.initial.disk l.disk;
-      later : D.faults l.initial.disk ≤ D.faults l.disk;
+      looks : OnlyLooks D l.initial.disk l.disk;
       writes : O.faults l.initial.sink ≤ O.faults l.sink;
     }

@@ -11,7 +11,7 @@ use Rattle.open_store.specs.Store.{OpenStore, expect_in}
 use Rattle.open_store.specs.Stream.{HasEnded, IsAt, IsTally}
 use Rattle.open_store.specs.PartRead.{IsRefused, IsTold, count_below_of}
 use Rattle.open_store.proofs.Causes.{handed, handed_other}
-use Rattle.open_store.proofs.Looks.{looks_then}
+use Rattle.disk_model.proofs.Looks.{looks_then}
 use Rattle.open_store.proofs.Parts.{ended_is_read, ended_is_refused}
 use Rattle.open_store.proofs.Tallies.{cell_few, ends_count}
 use Rattle.open_store.proofs.store.Store.count_below.Goals as goal
@@ -28,7 +28,6 @@ loop-tally-init g c =
       none = c.new-edges.ensures.items;
       at = ([], [], begun.2, subst (λ (l : List ℕ). IsTally l [] c.in_ok-tally.tally.row.items c.in_ok-tally.tally.newest) (ap (λ (x : OpenStore). x.ends) c.self.view_is) c.in_ok-tally.ensures, refl);
       looks = c.in_ok-stream.ensures.looks;
-      later = c.in_ok-stream.ensures.later;
     }
 
 all_given : (given edges : List Born) → edges ≡ [] → given ≡ given ++ edges
@@ -97,8 +96,7 @@ loop-tally-preserved g c =
             ∙ ap (λ (l : List ℕ). count_below_of s.ends c.args.i c.args.at given + count_below_of l c.args.i c.args.at new) ends
             ∙ sym (below_append s.ends c.args.i c.args.at given new),
       );
-      looks = looks_then D.seen D.may_leave D.moment D.left_since c.args.disk.now c.loop-tally.disk c.next.new.disk inv.looks c.next.ensures.looks;
-      later = omega (arith, inv.later, c.next.ensures.later);
+      looks = looks_then inv.looks c.next.ensures.looks;
     }
 
 pub returns-in_err-next-clause-cause : goal.returns-in_err-next-clause-cause
@@ -111,7 +109,7 @@ returns-in_err-next-clause-cause g c =
     let file = D.seen c.args.disk.now (part_file s.manifest j) in
     let same : IsTrue D.tells → D.seen c.loop-tally.disk c.loop-tally.stream.file ≡ file = λ tells k. inv.looks.same_seen k (inv.number k) in
     let at = subst (λ (l : List Born). IsAt (expect_in s j) D.tells file inv.at.0 l c.loop-tally.stream) (all_given given c.loop-tally.edges.items inv.none) inv.at.2 in
-    handed (D.faults c.args.disk.now) (D.faults c.loop-tally.disk) (D.faults c.next.new.disk) _ _ c.next.result c.from_residual-in_err-next.result c.in_err-next.field-0.0 c.in_err-next.was c.from_residual-in_err-next.ensures.1 inv.later
+    handed (D.faults c.args.disk.now) (D.faults c.loop-tally.disk) (D.faults c.next.new.disk) _ _ c.next.result c.from_residual-in_err-next.result c.in_err-next.field-0.0 c.in_err-next.was c.from_residual-in_err-next.ensures.1 inv.looks.later
     (λ f p k blamed. (
       blamed.0 ∙ inv.number,
       λ tells. inl (ap (λ (x : ℕ). first_break (expect_in s j) (D.seen c.args.disk.now x)) (blamed.0 ∙ inv.number) ∙ blamed.1 tells (expect_in s j) file inv.at.0 given (same tells) at),

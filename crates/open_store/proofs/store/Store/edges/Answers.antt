@@ -11,7 +11,7 @@ use Rattle.faults.specs.declared.form_kind.FormKind.{FormKind}
 use Rattle.open_store.specs.Stream.{HasEnded, IsTally}
 use Rattle.open_store.specs.PartRead.{IsRefused, IsTold}
 use Rattle.open_store.proofs.Causes.{handed, handed_other}
-use Rattle.open_store.proofs.Looks.{looks_then}
+use Rattle.disk_model.proofs.Looks.{looks_then}
 use Rattle.open_store.proofs.Parts.{ended_is_read, ended_is_refused}
 use Rattle.open_store.proofs.Tallies.{ends_count}
 use Rattle.open_store.proofs.store.Store.edges.Goals as goal
@@ -24,7 +24,6 @@ loop-edges-init g c =
       number = begun.0;
       at = ([], rw c.in_ok-edges.ensures.items begun.2);
       looks = c.in_ok-stream.ensures.looks;
-      later = c.in_ok-stream.ensures.later;
     }
 
 pub loop-edges-preserved : goal.loop-edges-preserved
@@ -37,8 +36,7 @@ loop-edges-preserved g c =
       stream = c.next.ensures.stream more;
       number = c.next.ensures.file ∙ inv.number;
       at = c.next.ensures.more more (expect_in c.args.self.now c.args.i) file inv.at.0 [] (λ tells. (λ k. inv.looks.same_seen k (inv.number k))) inv.at.1;
-      looks = looks_then D.seen D.may_leave D.moment D.left_since c.args.disk.now c.loop-edges.disk c.next.new.disk inv.looks c.next.ensures.looks;
-      later = omega (arith, inv.later, c.next.ensures.later);
+      looks = looks_then inv.looks c.next.ensures.looks;
     }
 
 pub returns-in_err-next-clause-cause : goal.returns-in_err-next-clause-cause
@@ -48,7 +46,7 @@ returns-in_err-next-clause-cause g c =
     let s = c.args.self.now in
     let i = c.args.i in
     let file = D.seen c.args.disk.now (part_file s.manifest i) in
-    handed (D.faults c.args.disk.now) (D.faults c.loop-edges.disk) (D.faults c.next.new.disk) _ _ c.next.result c.from_residual-in_err-next.result c.in_err-next.field-0.0 c.in_err-next.was c.from_residual-in_err-next.ensures.1 inv.later
+    handed (D.faults c.args.disk.now) (D.faults c.loop-edges.disk) (D.faults c.next.new.disk) _ _ c.next.result c.from_residual-in_err-next.result c.in_err-next.field-0.0 c.in_err-next.was c.from_residual-in_err-next.ensures.1 inv.looks.later
     (λ f p k blamed. (
       blamed.0 ∙ inv.number,
       λ tells. inl (ap (λ (x : ℕ). first_break (expect_in s i) (D.seen c.args.disk.now x)) (blamed.0 ∙ inv.number) ∙ blamed.1 tells (expect_in s i) file inv.at.0 [] (λ k. inv.looks.same_seen k (inv.number k)) inv.at.1),

@@ -1,7 +1,7 @@
-use Rattle.std.proofs.Common.{◌≡◌, ◌≤◌, ◌-◌, ℕ, List, []}
+use Rattle.std.proofs.Common.{◌≡◌, ◌-◌, ℕ, List, []}
 use Rattle.std.specs.Prelude.{◌++◌}
 use Rattle.store_law.specs.Listed.{part_file}
-use Rattle.disk_model.specs.Looks.{Looks}
+use Rattle.disk_model.specs.View.{OnlyLooks}
 use Rattle.open_store.specs.Store.{expect_in}
 use Rattle.open_store.specs.Stream.{IsAt, IsStream}
 use Rattle.open_store.proofs.store.Store.edges.Given as goal
@@ -14,8 +14,7 @@ invariant-loop-edges g l =
       stream : IsStream l.stream;
       number : l.stream.file ≡ part_file l.self.manifest l.i;
       at : (bytes : List ℕ) × IsAt (expect_in l.self l.i) D.tells file bytes l.edges.items l.stream;
-      looks : Looks D.seen D.may_leave D.moment D.left_since l.fn.disk l.disk;
-      later : D.faults l.fn.disk ≤ D.faults l.disk;
+      looks : OnlyLooks D l.fn.disk l.disk;
     }
 
 abbrev pub decreases-loop-edges : goal.decreases-loop-edges
