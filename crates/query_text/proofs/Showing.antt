@@ -22,7 +22,6 @@ use Rattle.query_text.specs.Answered.{AreRead, IsBlamed, IsPrinted, print_causes
 use Rattle.text_page.specs.Gathered.{Gathers, HasGathered}
 use Rattle.query_text.specs.Shown.{IsGathered, is_shown, line_of, shown_in, shown_text}
 use Rattle.query_text.specs.declared.fault.AnswerFault.{AnswerFault}
-use Rattle.query_text.specs.declared.fault.AnswerFault.TheVariants.{BadStore, DiskFault, NoMemory, WriteFault}
 use Rattle.query_text.specs.declared.show.Show.{Show}
 use Rattle.text_page.proofs.Gathering.{flushed, gathers_longer, gathers_none, gathers_then, nothing_taken}
 use Rattle.query_text.proofs.Reading.{all_edges-append, few, read_none, read_one, read_then}

@@ -1,6 +1,6 @@
 -- Printing that is under way.
-use Rattle.std.specs.Prelude.{◌≡◌, ℕ, ◌<◌, ◌≤◌, Bool, true, false, List, ◌++◌, length, filter, slice_index_or}
-use Rattle.std.specs.Prelude.{Option, None, Some, Result, Ok, Err, OnOk, IfOk}
+use Rattle.std.specs.Prelude.{◌≡◌, ℕ, ◌<◌, ◌≤◌, Bool, true, false, List, length, filter, slice_index_or}
+use Rattle.std.specs.Prelude.{Option, None, Some, Result, OnOk, IfOk}
 use Rattle.std.specs.List.{flat_map}
 use Rattle.graph_words.specs.declared.types.Born.{Born}
 use Rattle.text_page.specs.Gathered.{Gathers}
