@@ -1,6 +1,6 @@
 -- What is printed before and with the line of a fault.
 use Rattle.std.proofs.Common.{◌≡◌, inl, inr, ℕ, List, Bool, Option, refl, sym}
-use Rattle.query_text.proofs.Gathering.{nothing_taken}
+use Rattle.text_page.proofs.Gathering.{nothing_taken}
 use Rattle.graspan_top.specs.Printed.{Begins, BeginsWhole, Ends, Prints, PrintsFirst, TakesLine, fault_line}
 use Rattle.graspan_top.specs.declared.status.Status.{Status}
 use Rattle.graspan_top.specs.declared.status.Status.TheVariants.{Done, Words, InputFault, OtherInput, ReadFault, DiskFault, WriteFault, NoMemory, BadStore, NoStore, Unfinished, NotKnown}

@@ -31,7 +31,7 @@ use Rattle.query_text.specs.Text.{IsStateLine, answers_in, answers_text, dump_te
 use Rattle.query_text.specs.Text.IsStateLine.{finished, unfinished}
 use Rattle.query_text.specs.declared.fault.AnswerFault.{AnswerFault}
 use Rattle.query_text.specs.declared.fault.AnswerFault.TheVariants as answers
-use Rattle.query_text.proofs.Gathering.{nothing_taken}
+use Rattle.text_page.proofs.Gathering.{nothing_taken}
 use Rattle.query_text.proofs.Reading.{ends_within}
 use Rattle.query_text.proofs.Showing.{handed_on}
 use Rattle.graspan_top.specs.Faults.{of_answer}

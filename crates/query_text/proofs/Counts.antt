@@ -15,8 +15,9 @@ use Rattle.open_store.specs.Store.{IsOpenStore, OpenStore}
 use Rattle.open_store.specs.PartRead.{IsRead, IsRefused}
 use Rattle.query_text.specs.Answered.{AreRead, IsBlamed}
 use Rattle.query_text.specs.Text.{label_count, label_line, label_lines, tally_text}
-use Rattle.query_text.specs.Shown.{AreTallied, HasGathered}
-use Rattle.query_text.proofs.Gathering.{gathers_longer, gathers_then}
+use Rattle.text_page.specs.Gathered.{HasGathered}
+use Rattle.query_text.specs.Shown.{AreTallied}
+use Rattle.text_page.proofs.Gathering.{gathers_longer, gathers_then}
 use Rattle.query_text.proofs.Reading.{all_edges-append, few, read_one, read_then}
 
 count_append : (xs ys : List Born) (l : ℕ) → label_count (xs ++ ys) l ≡ label_count xs l + label_count ys l

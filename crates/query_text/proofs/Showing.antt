@@ -19,11 +19,11 @@ use Rattle.store_law.specs.Listed.{part_file}
 use Rattle.open_store.specs.Store.{IsOpenStore, OpenStore}
 use Rattle.open_store.specs.PartRead.{IsRead, IsRefused}
 use Rattle.query_text.specs.Answered.{AreRead, IsBlamed, IsPrinted, print_causes, why_not_printed}
-use Rattle.query_text.specs.Shown.{Gathers, HasGathered, IsGathered, is_shown, line_of, shown_in, shown_text}
+use Rattle.text_page.specs.Gathered.{Gathers, HasGathered}
+use Rattle.query_text.specs.Shown.{IsGathered, is_shown, line_of, shown_in, shown_text}
 use Rattle.query_text.specs.declared.fault.AnswerFault.{AnswerFault}
-use Rattle.query_text.specs.declared.fault.AnswerFault.TheVariants.{BadStore, DiskFault, NoMemory, WriteFault}
 use Rattle.query_text.specs.declared.show.Show.{Show}
-use Rattle.query_text.proofs.Gathering.{flushed, gathers_longer, gathers_none, gathers_then, nothing_taken}
+use Rattle.text_page.proofs.Gathering.{flushed, gathers_longer, gathers_none, gathers_then, nothing_taken}
 use Rattle.query_text.proofs.Reading.{all_edges-append, few, read_none, read_one, read_then}
 
 module _ (show : Show) (names : List (List ℕ)) where
@@ -262,7 +262,7 @@ module _ (s : OpenStore) (tells : Bool) (c : Contents) (T : Type 0) (text : List
           are_read = are;
           few = few;
           all = tt;
-          taken = flushed {U = Unit {0}} {F = Unit {0}} a b d held (Err tt) (text (all_edges read)) (subst (λ (l : List ℕ). HasGathered a l b held (text (all_edges read))) blank gathered) short;
+          taken = flushed {U = Unit {0}} {F = Unit {0}} a b d page held (Err tt) (text (all_edges read)) blank gathered short;
         },
         tt,
       )

@@ -1,10 +1,9 @@
 -- The counts of a row, one after the other, and the lines of partitions.
 use Rattle.std.proofs.Common.{◌≡◌, ℕ, zero, suc, ◌+◌, ◌*◌, ◌^◌, ◌<◌, ◌≤◌, List, [], ◌∷◌, ◌++◌, length, take, drop, get_or, refl, sym, subst, ap, ◌∙◌, arith, append_assoc, append-nil, take-append-drop}
-use Rattle.std.specs.Prelude.{map, slice_index_or, Option, Err}
-use Rattle.std.specs.Io.KnownBytes.{Appends}
-use Rattle.std.proofs.KnownBytes.{Appends-trans}
+use Rattle.std.specs.Prelude.{map, slice_index_or, Option, Err, Ok}
 use Rattle.io_edge.specs.Devices.{AppendsPrefix}
-use Rattle.io_edge.proofs.DeviceLemmas.{AppendsPrefix-more, takes_more}
+use Rattle.text_page.specs.Gathered.{HasGathered}
+use Rattle.text_page.proofs.Gathering.{gathers_longer, gathers_then}
 use Rattle.std.proofs.Math.Nat.{mul-le-mul}
 use Rattle.std.proofs.lemmas.List.{take_more, get_or-map, length-take}
 use Rattle.dest_map.specs.Table.{counts_of}
@@ -99,14 +98,14 @@ module _ (m : Manifest) (items : List PartEntry) (i : ℕ) (d : PartEntry) (lo e
   more : part_lines m 0 0 (take i m.parts) ++ line ≡ part_lines m 0 0 (take (i + 1) m.parts)
   more = ap (λ (t : List ℕ). part_lines m 0 0 (take i m.parts) ++ t) line_here ∙ sym (parts_more m m.parts i d below)
 
-  pub part_taken : (a b c : Option (List ℕ)) → Appends a b (part_lines m 0 0 (take i m.parts)) → Appends b c line → Appends a c (part_lines m 0 0 (take (i + 1) m.parts))
-  part_taken a b c p q = subst (λ (t : List ℕ). Appends a c t) more (Appends-trans a b c (part_lines m 0 0 (take i m.parts)) line p q)
+  pub part_gathered : (a b c : Option (List ℕ)) (p q r : List ℕ) → HasGathered a p b q (part_lines m 0 0 (take i m.parts)) → HasGathered b q c r line → HasGathered a p c r (part_lines m 0 0 (take (i + 1) m.parts))
+  part_gathered a b c p q r g h = subst (λ (t : List ℕ). HasGathered a p c r t) more (gathers_then {U = Unit {0}} {F = Unit {0}} a b c p q r (Ok tt) (part_lines m 0 0 (take i m.parts)) line g h)
 
-  pub part_failed : (a b c : Option (List ℕ)) → Appends a b (part_lines m 0 0 (take i m.parts)) → AppendsPrefix b c line → AppendsPrefix a c (part_lines m 0 0 m.parts)
-  part_failed a b c p q =
-      let front = subst (λ (t : List ℕ). AppendsPrefix a c t) more (takes_more {T = Unit {0}} {E = Unit {0}} a b c (Err tt) (part_lines m 0 0 (take i m.parts)) line p q) in
+  pub part_failed : (a b c : Option (List ℕ)) (p q : List ℕ) → HasGathered a p b q (part_lines m 0 0 (take i m.parts)) → AppendsPrefix b c (q ++ line) → AppendsPrefix a c (p ++ part_lines m 0 0 m.parts)
+  part_failed a b c p q g h =
+      let front = subst (λ (t : List ℕ). AppendsPrefix a c (p ++ t)) more (gathers_then {U = Unit {0}} {F = Unit {0}} a b c p q q (Err tt) (part_lines m 0 0 (take i m.parts)) line g h) in
       let rest = parts_front m m.parts (i + 1) in
-      subst (λ (t : List ℕ). AppendsPrefix a c t) (sym rest.1) (AppendsPrefix-more a c (part_lines m 0 0 (take (i + 1) m.parts)) rest.0 front)
+      subst (λ (t : List ℕ). AppendsPrefix a c (p ++ t)) (sym rest.1) (gathers_longer a c p (part_lines m 0 0 (take (i + 1) m.parts)) rest.0 front)
 
   pub end_is : (get_or items i d).hi ≡ end_of m.parts (i + 1)
   end_is = ap (λ (l : List PartEntry). (get_or l i d).hi) same ∙ sym (end_next m.parts i d below)

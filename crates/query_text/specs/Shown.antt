@@ -1,10 +1,9 @@
 -- Printing that is under way.
-use Rattle.std.specs.Prelude.{◌≡◌, ℕ, ◌<◌, ◌≤◌, Bool, true, false, List, ◌++◌, length, filter, slice_index_or}
-use Rattle.std.specs.Prelude.{Option, None, Some, Result, Ok, Err, OnOk, IfOk}
+use Rattle.std.specs.Prelude.{◌≡◌, ℕ, ◌<◌, ◌≤◌, Bool, true, false, List, length, filter, slice_index_or}
+use Rattle.std.specs.Prelude.{Option, None, Some, Result, OnOk, IfOk}
 use Rattle.std.specs.List.{flat_map}
-use Rattle.std.specs.Io.KnownBytes.{Appends}
 use Rattle.graph_words.specs.declared.types.Born.{Born}
-use Rattle.io_edge.specs.Devices.{AppendsPrefix}
+use Rattle.text_page.specs.Gathered.{Gathers}
 use Rattle.closing_machine.specs.Parts.{all_edges}
 use Rattle.disk_model.specs.Disk.{Contents}
 use Rattle.open_store.specs.Store.{OpenStore}
@@ -13,15 +12,6 @@ use Rattle.query_text.specs.Answered.{AreRead}
 use Rattle.query_text.specs.declared.fault.AnswerFault.{AnswerFault}
 use Rattle.query_text.specs.declared.show.Show.{Show}
 use Rattle.query_text.specs.declared.show.Show.TheVariants.{Label, Named}
-
--- what the sink took and what the page holds now are what the page held and the text
-abbrev pub HasGathered : Option (List ℕ) → List ℕ → Option (List ℕ) → List ℕ → List ℕ → Type 0
-HasGathered before held after holds text = (out : List ℕ) × Appends before after out × (out ++ holds ≡ held ++ text)
-
--- that at Ok, and where the call failed the sink took a prefix of what the page held and the text
-abbrev pub Gathers : {T E : Type 0} → Option (List ℕ) → List ℕ → Option (List ℕ) → List ℕ → Result T E → List ℕ → Type 0
-Gathers before held after holds (Ok x) text = HasGathered before held after holds text
-Gathers before held after holds (Err e) text = AppendsPrefix before after (held ++ text)
 
 -- whether an edge is shown, and its line
 abbrev pub is_shown : Show → List (List ℕ) → Born → Bool

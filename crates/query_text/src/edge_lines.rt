@@ -12,7 +12,7 @@ ghost use Rattle.query_text.specs.Answered.{AreListedIn, IsBlamed, IsPrinted, fi
 
 use crate::fault::AnswerFault;
 use crate::show::Show;
-use crate::walk::show_parts;
+use crate::walk::Walk;
 use disk_model::Disk;
 use graph_words::LabelId;
 use io_edge::Sink;
@@ -42,7 +42,7 @@ fn partitions_of(store: &Store, from: Option<u32>) -> (usize, usize)
 /// `from` asks for the edges from one vertex, and `to` for those to one. The line is `answer`, the
 /// source and the destination, with single spaces; the lines come by source and then by destination.
 /// With `from` only the partition that holds this vertex is loaded, and else each, one at a time. The
-/// lines go to the sink in pieces of up to 65,536 bytes.
+/// lines go to the sink in pieces of up to 16,384 bytes.
 ///
 /// `BadStore` comes exactly where the file of such a partition is refused, the first one that is;
 /// `DiskFault` comes only where the disk's count rose, `WriteFault` only where the sink's did, and
@@ -76,8 +76,13 @@ pub fn answers<D: Disk, O: Sink>(
         (IsBlamed store.now D.tells (D.seen disk.old) (first_asked store.now from) (wanted store.now from))) result }
 {
     let (first, end) = partitions_of(store, from);
-    let show = Show::Label { label, from, to };
-    show_parts(alloc, disk, store, first, end, &show, sink)
+    let walk = Walk {
+        store,
+        first,
+        end,
+        show: Show::Label { label, from, to },
+    };
+    walk.show_parts(alloc, disk, sink)
 }
 
 /// Prints a line for each listed edge whose label has a name: source, destination and name, with single
@@ -106,6 +111,12 @@ pub fn dump<D: Disk, O: Sink>(
         (IsBlamed store.now D.tells (D.seen disk.old) 0 (length store.now.manifest.parts))) result }
 {
     let end = store.intervals().len();
-    show_parts(alloc, disk, store, 0, end, &Show::Named, sink)?;
+    let walk = Walk {
+        store,
+        first: 0,
+        end,
+        show: Show::Named,
+    };
+    walk.show_parts(alloc, disk, sink)?;
     Ok(())
 }

@@ -2,6 +2,7 @@
 ghost use Rattle.std.specs.Prelude.{◌≡◌, ◌<◌, ◌≤◌, ◌++◌, ◌∷◌, [], ℕ, List, length, MatchOption, IfErr};
 ghost use Rattle.faults.specs.Counts.{HasCause};
 ghost use Rattle.io_edge.specs.Devices.{Takes};
+ghost use Rattle.text_page.specs.Gathered.{Gathers};
 ghost use Rattle.dest_map.specs.Table.{counts_of};
 ghost use Rattle.manifest_codec.specs.Spelling.{Fits};
 ghost use Rattle.query_text.specs.Text.{IsStateLine, edges_in, head_text, part_lines};
@@ -14,6 +15,7 @@ use io_edge::{Failed, Sink};
 use manifest_codec::Manifest;
 use open_store::Store;
 use pair_sched::least_dirty;
+use text_page::Page;
 
 // How many edges partition `i` has.
 fn edges_of(m: &Manifest, i: usize) -> u64
@@ -28,28 +30,39 @@ fn edges_of(m: &Manifest, i: usize) -> u64
     edges
 }
 
-// Prints the line of each partition.
-fn print_parts<O: Sink>(m: &Manifest, sink: &mut O) -> Result<(), Failed>
+// Puts the line of each partition.
+fn put_parts<O: Sink>(m: &Manifest, page: &mut Page, sink: &mut O) -> Result<(), Failed>
     requires { Fits m.now }
-    ensures taken { Takes (O.told sink.old) (O.told sink.new) result (part_lines m.now 0 0 m.now.parts) }
+    ensures gathered { Gathers (O.told sink.old) page.old (O.told sink.new) page.new result (part_lines m.now 0 0 m.now.parts) }
     ensures cause { HasCause (O.faults sink.old) (O.faults sink.new) result }
 {
     let mut lo = 0;
     for (i, part) in m.parts.as_slice().iter().enumerate() {
-        sink.write(part_line(i, lo, part.hi, edges_of(m, i)).as_slice())?;
+        page.put(sink, part_line(i, lo, part.hi, edges_of(m, i)).as_slice())?;
         lo = part.hi;
     }
     Ok(())
 }
 
-// Prints the lines of the vertices and of each partition.
+// Puts the lines of the vertices and of each partition.
+fn put_head<O: Sink>(m: &Manifest, page: &mut Page, sink: &mut O) -> Result<(), Failed>
+    requires { Fits m.now }
+    ensures gathered { Gathers (O.told sink.old) page.old (O.told sink.new) page.new result (head_text m.now) }
+    ensures cause { HasCause (O.faults sink.old) (O.faults sink.new) result }
+{
+    page.put(sink, vertices_line(m.vertices).as_slice())?;
+    put_parts(m, page, sink)
+}
+
+// Prints the head.
 fn print_head<O: Sink>(m: &Manifest, sink: &mut O) -> Result<(), Failed>
     requires { Fits m.now }
     ensures taken { Takes (O.told sink.old) (O.told sink.new) result (head_text m.now) }
     ensures cause { HasCause (O.faults sink.old) (O.faults sink.new) result }
 {
-    sink.write(vertices_line(m.vertices).as_slice())?;
-    print_parts(m, sink)
+    let mut page = Page::new();
+    put_head(m, &mut page, sink)?;
+    page.flush(sink)
 }
 
 // The line of the state.
@@ -70,15 +83,17 @@ fn print_all<O: Sink>(m: &Manifest, sink: &mut O) -> Result<(), Failed>
     ensures cause { HasCause (O.faults sink.old) (O.faults sink.new) result }
 {
     let state = state_line(m);
-    print_head(m, sink)?;
-    sink.write(state.as_slice())
+    let mut page = Page::new();
+    put_head(m, &mut page, sink)?;
+    page.put(sink, state.as_slice())?;
+    page.flush(sink)
 }
 
 /// Prints what the manifest says of vertices and partitions: `vertices` and their number, and for each
 /// partition `part`, its number, its first vertex, the vertex behind its last one, and how many edges it has.
 ///
-/// Each line is one write, and takes no memory. The only fault is `WriteFault`, which comes only where
-/// the sink's count rose; then a prefix of the lines was printed.
+/// The lines go to the sink in pieces of up to 16,384 bytes, and take no memory. The only fault is `WriteFault`,
+/// which comes only where the sink's count rose; then a prefix of the lines was printed.
 pub fn head<O: Sink>(store: &Store, sink: &mut O) -> Result<(), AnswerFault>
     ensures taken { Takes (O.told sink.old) (O.told sink.new) result (head_text store.now.manifest) }
     ensures later { O.faults sink.old ≤ O.faults sink.new }

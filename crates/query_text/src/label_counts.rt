@@ -9,20 +9,21 @@ ghost use Rattle.io_edge.specs.Devices.{Takes};
 ghost use Rattle.closing_machine.specs.Parts.{all_edges};
 ghost use Rattle.label_table.specs.Names.{IsTable};
 ghost use Rattle.open_store.specs.Store.{IsOpenStore};
+ghost use Rattle.text_page.specs.Gathered.{Gathers};
 ghost use Rattle.query_text.specs.Text.{tally_text};
 ghost use Rattle.query_text.specs.Answered.{AreListedIn, AreRead, IsBlamed, IsPrinted, print_causes, why_not_printed};
-ghost use Rattle.query_text.specs.Shown.{AreTallied, Gathers};
+ghost use Rattle.query_text.specs.Shown.{AreTallied};
 
 use crate::fault::AnswerFault;
 use crate::lines::label_line;
 use crate::load::load;
-use crate::page::Page;
 use disk_model::Disk;
 use graph_words::{Born, LabelId};
 use io_edge::{Failed, Sink};
 use label_table::{LabelTable, Name};
 use open_store::Store;
 use std::alloc::Global;
+use text_page::Page;
 
 // Counts one more at the number of a label, where it has a name.
 fn count_label(counts: &mut Vec<u64>, label: LabelId)
@@ -110,12 +111,7 @@ fn put_lines<O: Sink>(
 }
 
 // Prints the line of each name and its count.
-fn print_lines<O: Sink>(
-    alloc: Global,
-    sink: &mut O,
-    table: &LabelTable,
-    counts: &[u64],
-) -> Result<(), AnswerFault>
+fn print_lines<O: Sink>(sink: &mut O, table: &LabelTable, counts: &[u64]) -> Result<(), AnswerFault>
     requires { length counts.now ≡ length table.now }
     ensures taken { (edges : List ABorn) → AreTallied (length table.now) edges counts.now
         → Takes (O.told sink.old) (O.told sink.new) result (tally_text table.now edges) }
@@ -123,7 +119,7 @@ fn print_lines<O: Sink>(
     ensures cause { HasReason why_not_printed (print_causes (WriteRose O.Sink sink.old sink.new) ⊥
         blames_none) result }
 {
-    let mut page = Page::new(alloc)?;
+    let mut page = Page::new();
     put_lines(&mut page, sink, table.names(), counts)?;
     page.flush(sink)?;
     Ok(())
@@ -131,7 +127,7 @@ fn print_lines<O: Sink>(
 
 /// Prints for each named label, by its number, the line `label`, its name, and how many listed edges have it.
 ///
-/// Each partition is read first, one at a time; then the lines go to the sink in pieces of up to 65,536
+/// Each partition is read first, one at a time; then the lines go to the sink in pieces of up to 16,384
 /// bytes. Faults come as those of `answers`. Where the disk failed or a partition was refused, nothing was
 /// printed.
 pub fn tally<D: Disk, O: Sink>(
@@ -156,5 +152,5 @@ pub fn tally<D: Disk, O: Sink>(
         (IsBlamed store.now D.tells (D.seen disk.old) 0 (length store.now.manifest.parts))) result }
 {
     let counts = count_labels(alloc, disk, store)?;
-    print_lines(alloc, sink, &store.manifest().labels, &counts)
+    print_lines(sink, &store.manifest().labels, &counts)
 }

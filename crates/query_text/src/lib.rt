@@ -8,7 +8,6 @@ mod label_counts;
 mod laws;
 mod lines;
 mod load;
-mod page;
 mod show;
 mod walk;
 

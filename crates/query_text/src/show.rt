@@ -2,14 +2,15 @@
 ghost use Rattle.std.specs.Prelude.{◌≡◌, ◌∷◌, [], length, IfOk};
 ghost use Rattle.std.specs.Option.{option_map};
 ghost use Rattle.faults.specs.Counts.{HasCause};
+ghost use Rattle.text_page.specs.Gathered.{Gathers};
 ghost use Rattle.query_text.specs.Text as text;
-ghost use Rattle.query_text.specs.Shown.{Gathers, IsLineOf, shown_in, shown_text};
+ghost use Rattle.query_text.specs.Shown.{IsLineOf, shown_in, shown_text};
 
 use crate::lines::{Line, answer_line, edge_line};
-use crate::page::Page;
 use graph_words::{Born, LabelId};
 use io_edge::{Failed, Sink};
 use label_table::LabelTable;
+use text_page::Page;
 
 /// Which edges are shown.
 #[derive(Clone, Copy, Debug)]

@@ -1,5 +1,5 @@
 //! Pieces of a text are gathered before they go to the sink.
-ghost use Rattle.std.specs.Prelude.{◌≡◌, ◌++◌, [], OnOk, MatchBool};
+ghost use Rattle.std.specs.Prelude.{◌≡◌, ◌+◌, ◌<◌, ◌≤◌, ◌++◌, [], length, OnOk, MatchBool};
 ghost use Rattle.faults.specs.Counts.{HasCause};
 ghost use Rattle.io_edge.specs.Devices.{Takes};
 ghost use Rattle.text_page.specs.Gathered.{Gathers};
@@ -39,9 +39,14 @@ impl Page {
 
     // Adds a piece where it fits, and answers whether it did.
     fn hold(&mut self, piece: &[u8]) -> bool
-        ensures { MatchBool result (self.new ≡ self.old ++ piece.now) (self.new ≡ self.old) }
+        ensures { MatchBool result (self.new ≡ self.old ++ piece.now)
+            ((self.new ≡ self.old) × (PAGE_LEN < length self.old + length piece.now)) }
     {
-        self.bytes.try_extend_from_slice(piece).is_ok()
+        if self.bytes.remaining_capacity() < piece.len() {
+            return false;
+        }
+        self.bytes.try_extend_from_slice(piece).unwrap();
+        true
     }
 
     /// Gives the sink all that the page holds, in one piece. After Ok the page holds nothing.
@@ -57,12 +62,13 @@ impl Page {
         Ok(())
     }
 
-    /// Puts a piece of a text behind what the page holds. Where it doesn't fit, what the page holds goes to the sink
-    /// first, and a piece that is longer than a page goes there too.
+    /// Puts a piece of a text behind what the page holds, and where it fits, the sink is not called. Where it doesn't,
+    /// what the page holds goes to the sink first, and a piece that is longer than a page goes there too.
     ///
     /// `Failed` comes only where the sink failed, which has then taken a prefix of what the page held and the piece.
     pub fn put<O: Sink>(&mut self, sink: &mut O, piece: &[u8]) -> Result<(), Failed>
         ensures gathered { Gathers (O.told sink.old) self.old (O.told sink.new) self.new result piece.now }
+        ensures held { length self.old + length piece.now ≤ PAGE_LEN → (self.new ≡ self.old ++ piece.now) × (sink.new ≡ sink.old) }
         ensures cause { HasCause (O.faults sink.old) (O.faults sink.new) result }
     {
         if self.hold(piece) {

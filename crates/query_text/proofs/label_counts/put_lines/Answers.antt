@@ -1,7 +1,7 @@
 use Rattle.std.proofs.Common.{◌∙◌, ℕ, List, arith, subst}
 use Rattle.std.specs.Prelude.{slice_index_or}
 use Rattle.std.proofs.lemmas.Result.{err_from_is_err_and}
-use Rattle.query_text.specs.Shown.{HasGathered}
+use Rattle.text_page.specs.Gathered.{HasGathered}
 use Rattle.query_text.proofs.Counts.{line_failed, line_gathered, lines_all}
 use Rattle.query_text.proofs.label_counts.put_lines.Goals as goal
 

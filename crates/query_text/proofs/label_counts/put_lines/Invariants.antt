@@ -1,7 +1,8 @@
 use Rattle.std.proofs.Common.{◌≤◌, List, length, take}
 use Rattle.graph_words.specs.declared.types.Born.{Born}
 use Rattle.query_text.specs.Text.{tally_text}
-use Rattle.query_text.specs.Shown.{AreTallied, HasGathered}
+use Rattle.text_page.specs.Gathered.{HasGathered}
+use Rattle.query_text.specs.Shown.{AreTallied}
 use Rattle.query_text.proofs.label_counts.put_lines.Given as goal
 
 abbrev pub invariant-loop-l : goal.invariant-loop-l

@@ -1,5 +1,6 @@
 use Rattle.std.proofs.Common.{◌≡◌, ◌≤◌, length, take}
-use Rattle.query_text.specs.Shown.{HasGathered, shown_in, shown_text}
+use Rattle.text_page.specs.Gathered.{HasGathered}
+use Rattle.query_text.specs.Shown.{shown_in, shown_text}
 use Rattle.query_text.proofs.show.Show.put_edges.Given as goal
 
 abbrev pub invariant-loop-born : goal.invariant-loop-born
