@@ -7,7 +7,8 @@ use Rattle.graspan_top.specs.Given.{Given}
 use Rattle.graspan_top.specs.Printed.{IsNothingOr}
 use Rattle.graspan_top.specs.Refusals.{Rises, Stage}
 use Rattle.graspan_top.specs.Run.{IsRunBegun, IsRunText, run_stages}
-use Rattle.graspan_top.specs.Looks.{IsDumpFront, IsDumpText, IsPartsText, IsQueryText, dump_stages, parts_stages, query_stages}
+use Rattle.graspan_top.specs.Looks.{IsDumpFront, IsDumpText, IsPartsText, IsQueryText}
+use Rattle.graspan_top.specs.Looks.{dump_stages, parts_stages, query_stages}
 
 -- the stages of a command, in the order in which they refuse. They speak of what is given, and a run's of what a read
 -- gives after it too.

@@ -67,7 +67,7 @@ wants_all = record { first = λ s. 0; number = λ s. length s.manifest.parts }
 abbrev pub wants_one : ℕ → Wants
 wants_one u = record { first = λ s. first_asked s (Some u); number = λ s. wanted s (Some u) }
 
--- a file is blamed by which the first of the wanted partitions that is refused is named
+-- the first of the wanted partitions that is refused isn't what this file spells
 abbrev pub BlamesLoading : Bool → Contents → Wants → ℕ → ℕ → FormKind → Type 0
 BlamesLoading tells c w file place kind = IsTrue tells → (s : OpenStore)
     × IsHeld s c × IsBlamed s true c (w.first s) (w.number s) file place kind
@@ -150,4 +150,6 @@ known_stage tells c label from to =
 abbrev pub query_stages : Bool → Contents → List ℕ → ℕ → Option ℕ → Type 0 → Type 0 → List Stage
 query_stages tells c label from to disk_rose out_rose =
     finished_stages tells c disk_rose
-    ++ (known_stage tells c label from to ∷ printing_stage disk_rose out_rose (BlamesLoading tells c (wants_one from)) ∷ [])
+    ++ (known_stage tells c label from to
+    ∷ printing_stage disk_rose out_rose (BlamesLoading tells c (wants_one from))
+    ∷ [])

@@ -1,7 +1,7 @@
 -- The order of refusals: a command goes through stages, and a status is explained by the first stage that refuses.
 use Rattle.std.specs.Prelude.{ℕ, ◌⊎◌, List, [], ◌∷◌, Option, Some, None}
-use Rattle.faults.specs.Reasons.{Causes, Holds, Why, broken, differs, disk_failed, faulty, no_memory, no_store, no_words, not_known}
-use Rattle.faults.specs.Reasons.{read_failed, work_left, write_failed}
+use Rattle.faults.specs.Reasons.{Causes, Holds, Why, broken, differs, disk_failed, faulty, no_memory, no_store, no_words}
+use Rattle.faults.specs.Reasons.{not_known, read_failed, work_left, write_failed}
 use Rattle.disk_model.specs.declared.disk.Disk as disk
 use Rattle.disk_model.specs.View.{DiskRose}
 use Rattle.io_edge.specs.declared.devices.Inputs as inputs

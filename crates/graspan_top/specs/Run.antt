@@ -99,11 +99,12 @@ StopsLeave images moment left_since told edges grammar old new = (g e : List ℕ
     → told edges ≡ Some e → ((c : Contents) → images old c → IsLeft (texts_of g e) c)
     → LeavesOnly moment left_since old new (IsLeft (texts_of g e))
 
--- ---- the order in which a run refuses
+-- ---- the order in which a run refuses, stage by stage
 
 -- the grammar file's first fault
 abbrev pub HasGrammarFault : Option (List ℕ) → InputFile → ℕ → InputKind → Type 0
-HasGrammarFault told Grammar line kind = WhereTold told (λ g. grammar_fault g ≡ Some (record { line = line; kind = kind }))
+HasGrammarFault told Grammar line kind = WhereTold told
+    (λ g. grammar_fault g ≡ Some (record { line = line; kind = kind }))
 HasGrammarFault told _ line kind = ⊥
 
 -- The grammar file is read, and has no fault.
@@ -139,11 +140,11 @@ same_grammar_stage x grammar read_rose disk_rose =
       passed = IsStored x Grammar (x.told grammar);
     }
 
--- where the disk is blank
+-- where the disk is blank, and tells it
 abbrev pub WhereBlank : Given → Type 0 → Type 0
 WhereBlank x P = IsTrue x.tells → current_of x.before ≡ Ok Blank → P
 
--- the first fault of the edge file, behind the names of the grammar
+-- the first fault of the edge file, behind the names of the grammar: of a file that is taken to a blank disk
 abbrev pub HasEdgesFault : Given → List ℕ → List ℕ → InputFile → ℕ → InputKind → Type 0
 HasEdgesFault x edges grammar file line kind = (file ≡ Edges) × (IsTrue x.tells → current_of x.before ≡ Ok Blank)
     × WhereTold (x.told grammar) (λ g. WhereTold (x.told edges)
@@ -179,7 +180,8 @@ ready_stages x edges grammar rose =
 abbrev pub Accepts : Given → List ℕ → List ℕ → Type 0
 Accepts x edges grammar = ArePassed (ready_stages x edges grammar no_rise)
 
--- a file is blamed by which no partition is named where it is loaded for the closing
+-- A partition that is loaded for the closing isn't what this file spells: that of a store on the way, from the one with
+-- which the closing began.
 pub record BlamesClosing (x : Given) (edges grammar : List ℕ) (file place : ℕ) (kind : FormKind) : Type 0 where
   pub seen : Contents
   pub store : OpenStore
@@ -191,7 +193,8 @@ pub record BlamesClosing (x : Given) (edges grammar : List ℕ) (file place : �
 abbrev pub closing_stage : Given → List ℕ → List ℕ → Contents → Type 0 → Stage
 closing_stage x edges grammar after disk_rose =
     record {
-      refuses = disk_causes disk_rose (λ file place kind. IsTrue x.tells → BlamesClosing x edges grammar file place kind);
+      refuses = disk_causes disk_rose
+          (λ file place kind. IsTrue x.tells → BlamesClosing x edges grammar file place kind);
       passed = IsTrue x.tells → (s : OpenStore) × IsOpenedAs x edges grammar after s × IsDone s.manifest;
     }
 
@@ -205,18 +208,19 @@ label_stage tells c show =
       passed = WhereCurrent tells c (λ m. IfSome show (λ label. Contains m.labels label));
     }
 
--- Everything is printed, or a file is blamed for this. What is printed is said elsewhere.
+-- Everything is printed. What that is, is said by the text of the command.
 abbrev pub printing_stage : Type 0 → Type 0 → (ℕ → ℕ → FormKind → Type 0) → Stage
 printing_stage disk_rose out_rose bad = record { refuses = print_causes out_rose disk_rose bad; passed = Unit {0} }
 
--- a file is blamed by which no partition is named where it is loaded for the printing
+-- a partition that is loaded for the printing isn't what this file spells
 abbrev pub BlamesPrinting : Given → List ℕ → List ℕ → Contents → ℕ → ℕ → FormKind → Type 0
 BlamesPrinting x edges grammar after file place kind = IsTrue x.tells → (s : OpenStore)
     × IsOpenedAs x edges grammar after s × IsBlamed s true after 0 (length s.manifest.parts) file place kind
 
 -- the stages up to a store that is closed
 abbrev pub closed_stages : Given → List ℕ → List ℕ → Contents → Rises → List Stage
-closed_stages x edges grammar after rose = ready_stages x edges grammar rose ++ (closing_stage x edges grammar after rose.disk ∷ [])
+closed_stages x edges grammar after rose =
+    ready_stages x edges grammar rose ++ (closing_stage x edges grammar after rose.disk ∷ [])
 
 -- The stages of a run: up to a store that is closed, the label that is shown, the printing.
 abbrev pub run_stages : Given → List ℕ → List ℕ → Option (List ℕ) → Contents → Rises → List Stage

@@ -33,12 +33,14 @@ DiffersFrom told tells copy place = WhereTold told (λ file. IsTrue tells → Di
 abbrev pub compare_stage : InputFile → Option (List ℕ) → Bool → List ℕ → Type 0 → Type 0 → Stage
 compare_stage file told tells copy read_rose disk_rose =
     record {
-      refuses = compare_causes read_rose disk_rose (λ blamed place. (blamed ≡ file) × DiffersFrom told tells copy place);
+      refuses = compare_causes read_rose disk_rose
+          (λ blamed place. (blamed ≡ file) × DiffersFrom told tells copy place);
       passed = IsCopied told tells copy;
     }
 
 -- the grammar is compared first
-abbrev pub compare_stages : Option (List ℕ) → Option (List ℕ) → Bool → Contents → Manifest → Type 0 → Type 0 → Type 0 → List Stage
+abbrev pub compare_stages : Option (List ℕ) → Option (List ℕ) → Bool → Contents → Manifest → Type 0 → Type 0 → Type 0
+    → List Stage
 compare_stages grammar edges tells seen m grammar_rose edges_rose disk_rose =
     compare_stage Grammar grammar tells (copy_of m Grammar seen) grammar_rose disk_rose
     ∷ compare_stage Edges edges tells (copy_of m Edges seen) edges_rose disk_rose

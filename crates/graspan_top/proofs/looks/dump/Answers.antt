@@ -1,11 +1,13 @@
 use Rattle.std.proofs.Common.{◌≤◌, arith}
 use Rattle.faults.specs.Counts.{Rose}
 use Rattle.graspan_top.specs.Faults.{of_answer}
-use Rattle.graspan_top.specs.Looks.{IsDumpFront, IsDumpText, dump_stages}
-use Rattle.graspan_top.specs.Printed.{IsNothingOr, status_of}
+use Rattle.graspan_top.specs.Looks.{IsDumpFront, IsDumpText, dump_stages, finished_stages}
+use Rattle.graspan_top.specs.Printed.{IsNothingOr, PrintsFirst, status_of}
 use Rattle.graspan_top.specs.Refusals.{Explained}
 use Rattle.graspan_top.proofs.ExplainLemmas.{rose_later}
 use Rattle.graspan_top.proofs.LookLemmas.{dump_not_found, dump_passed, dump_refused, status_at}
+use Rattle.graspan_top.proofs.PrintLemmas.{nothing_first}
+use Rattle.graspan_top.proofs.StageLemmas.{refused_not_done}
 use Rattle.graspan_top.proofs.TextLemmas.{begun_short, dump_begun, dump_short, dump_whole, nothing_begun, printed_short}
 use Rattle.graspan_top.proofs.looks.dump.Goals as goal
 
@@ -56,6 +58,16 @@ returns-clause-printed g c =
     let found = c.in_ok-store.ensures in
     let taken = c.in_ok-dump.ensures.printed in
     dump_whole c.in_ok-store.store (D.seen c.args.disk.now) (D.seen c.finished_store.new.disk) found.looks.same_seen D.tells found.held (told c.args.out.now) (told c.dump.new.sink) taken.0 found.done taken.1
+
+pub returns-in_err-store-clause-printed : goal.returns-in_err-store-clause-printed
+returns-in_err-store-clause-printed g c =
+    let D = g.D.Disk in
+    let old = g.O.Sink.told c.args.out.now in
+    let seen = D.seen c.args.disk.now in
+    let dr : Type 0 = Rose (D.faults c.args.disk.now) (D.faults c.finished_store.new.disk) in
+    let e = c.in_err-store.field-0.0 in
+    status_at (PrintsFirst D.tells (IsDumpText seen) old old) c.from_residual.result e c.from_residual.ensures.1
+    (nothing_first D.tells (IsDumpText seen) old e (refused_not_done (finished_stages D.tells seen dr) e c.in_err-store.ensures.refused))
 
 pub returns-in_err-store-clause-begun : goal.returns-in_err-store-clause-begun
 returns-in_err-store-clause-begun g c =

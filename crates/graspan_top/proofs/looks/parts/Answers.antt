@@ -1,9 +1,11 @@
 use Rattle.faults.specs.Counts.{Rose}
 use Rattle.graspan_top.specs.Faults.{of_answer}
-use Rattle.graspan_top.specs.Looks.{IsPartsText, parts_stages}
-use Rattle.graspan_top.specs.Printed.{IsNothingOr, status_of}
+use Rattle.graspan_top.specs.Looks.{IsPartsText, parts_stages, found_stages}
+use Rattle.graspan_top.specs.Printed.{IsNothingOr, PrintsFirst, status_of}
 use Rattle.graspan_top.specs.Refusals.{Explained}
 use Rattle.graspan_top.proofs.LookLemmas.{parts_not_found, parts_passed, parts_refused, status_at}
+use Rattle.graspan_top.proofs.PrintLemmas.{nothing_first}
+use Rattle.graspan_top.proofs.StageLemmas.{refused_not_done}
 use Rattle.graspan_top.proofs.TextLemmas.{begun_short, nothing_begun, parts_begun, parts_short, printed_short}
 use Rattle.graspan_top.proofs.looks.parts.Goals as goal
 
@@ -43,6 +45,16 @@ returns-in_err-parts-clause-printed g c =
     let taken = c.in_err-parts.ensures.taken in
     printed_short D.tells (IsPartsText seen) (told c.args.out.now) (told c.parts.new.sink) c.in_err-parts.field-0.0 c.from_residual-in_err-parts.result c.from_residual-in_err-parts.ensures.1
     (parts_short s seen D.tells taken.0 (told c.args.out.now) (told c.parts.new.sink) c.in_ok-store.ensures.held taken.1 taken.2)
+
+pub returns-in_err-store-clause-printed : goal.returns-in_err-store-clause-printed
+returns-in_err-store-clause-printed g c =
+    let D = g.D.Disk in
+    let old = g.O.Sink.told c.args.out.now in
+    let seen = D.seen c.args.disk.now in
+    let dr : Type 0 = Rose (D.faults c.args.disk.now) (D.faults c.found.new.disk) in
+    let e = c.in_err-store.field-0.0 in
+    status_at (PrintsFirst D.tells (IsPartsText seen) old old) c.from_residual.result e c.from_residual.ensures.1
+    (nothing_first D.tells (IsPartsText seen) old e (refused_not_done (found_stages D.tells seen dr) e c.in_err-store.ensures.refused))
 
 pub returns-in_err-store-clause-begun : goal.returns-in_err-store-clause-begun
 returns-in_err-store-clause-begun g c =

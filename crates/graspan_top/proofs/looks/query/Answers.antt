@@ -4,11 +4,13 @@ use Rattle.faults.specs.Counts.{Rose}
 use Rattle.manifest_codec.specs.declared.types.Manifest.{Manifest}
 use Rattle.open_store.proofs.Looks.{looks_then}
 use Rattle.graspan_top.specs.Faults.{of_answer}
-use Rattle.graspan_top.specs.Looks.{AreVerticesOf, IsQueryText, query_stages}
-use Rattle.graspan_top.specs.Printed.{IsNothingOr, status_of}
+use Rattle.graspan_top.specs.Looks.{AreVerticesOf, IsQueryText, query_stages, finished_stages}
+use Rattle.graspan_top.specs.Printed.{IsNothingOr, PrintsFirst, status_of}
 use Rattle.graspan_top.specs.Refusals.{Explained}
 use Rattle.graspan_top.proofs.ExplainLemmas.{rose_later}
 use Rattle.graspan_top.proofs.LookLemmas.{has_label, query_not_found, query_passed, query_refused, query_unknown, status_at}
+use Rattle.graspan_top.proofs.PrintLemmas.{nothing_first}
+use Rattle.graspan_top.proofs.StageLemmas.{refused_not_done}
 use Rattle.graspan_top.proofs.TextLemmas.{begun_short, nothing_begun, printed_short, query_begun, query_short, query_whole}
 use Rattle.graspan_top.proofs.looks.query.Goals as goal
 
@@ -111,6 +113,16 @@ pub returns-clause-looks : goal.returns-clause-looks
 returns-clause-looks g c =
     let D = g.D.Disk in
     looks_then D.seen D.may_leave D.moment D.left_since c.args.disk.now c.finished_store.new.disk c.print_query.new.disk c.in_ok-store.ensures.looks c.in_ok-print_query.ensures.looks
+
+pub returns-in_err-store-clause-printed : goal.returns-in_err-store-clause-printed
+returns-in_err-store-clause-printed g c =
+    let D = g.D.Disk in
+    let old = g.O.Sink.told c.args.out.now in
+    let seen = D.seen c.args.disk.now in
+    let dr : Type 0 = Rose (D.faults c.args.disk.now) (D.faults c.finished_store.new.disk) in
+    let e = c.in_err-store.field-0.0 in
+    status_at (PrintsFirst D.tells (IsQueryText seen c.args.label.now c.args.ends.from c.args.ends.to) old old) c.from_residual.result e c.from_residual.ensures.1
+    (nothing_first D.tells (IsQueryText seen c.args.label.now c.args.ends.from c.args.ends.to) old e (refused_not_done (finished_stages D.tells seen dr) e c.in_err-store.ensures.refused))
 
 pub returns-in_err-store-clause-begun : goal.returns-in_err-store-clause-begun
 returns-in_err-store-clause-begun g c =

@@ -4,6 +4,7 @@ use Rattle.faults.specs.Counts.{Rose}
 use Rattle.disk_model.specs.Disk.{Contents}
 use Rattle.manifest_switch.specs.declared.slot.Found.TheVariants.{Blank}
 use Rattle.store_fault.specs.Faults.{why_of}
+use Rattle.store.specs.Import.{import_causes}
 use Rattle.open_store.specs.Opened.{IsOpened, IsOpenedAlone}
 use Rattle.graspan_top.specs.Given.{Given}
 use Rattle.open_store.specs.declared.opened.Opened.{Opened as OpenedT}
@@ -39,7 +40,7 @@ returns-in-Blank-clause-refused g c =
     let blank = λ (tells : IsTrue D.tells). sym (c.in_ok-open.ensures.stays tells).same ∙ subst (IsOpened (D.seen c.open.new.disk)) c.in-Blank.is (c.in_ok-open.ensures.opened tells) in
     let rose = rises_in I D c.args.inputs.now c.import.new.inputs c.args.disk.now c.import.new.disk in
     let dr : Type 0 = Rose (D.faults c.open.new.disk) (D.faults c.import.new.disk) in
-    by_reason why_of _ c.import.result _
+    by_reason why_of (import_causes c.args.grammar.now (x.told c.args.files.now.edges.now) (IsTrue D.tells) (rose.reads c.args.files.now.edges.now) dr) c.import.result _
     (λ e h.
     import_refused x c.args.files.now.edges.now c.args.files.now.grammar.now c.args.grammar.now c.requires blank rose dr
     (rose_later (D.faults c.args.disk.now) (D.faults c.open.new.disk) (D.faults c.import.new.disk) (D.faults c.import.new.disk) c.open.ensures.later (omega arith)) (why_of e) h)

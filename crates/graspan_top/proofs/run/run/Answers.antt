@@ -8,7 +8,7 @@ use Rattle.graspan_top.specs.declared.status.Status.TheVariants.{Done}
 use Rattle.graspan_top.specs.Given.{Given}
 use Rattle.graspan_top.specs.Printed.{Begins, IsNothingOr, PrintsFirst, status_of}
 use Rattle.graspan_top.specs.Refusals.{Explained, rises_in, rises_of}
-use Rattle.graspan_top.specs.Run.{IsRunBegun, IsRunText, run_stages}
+use Rattle.graspan_top.specs.Run.{IsRunBegun, IsRunText, closed_stages, run_stages}
 use Rattle.graspan_top.proofs.LookLemmas.{status_at}
 use Rattle.graspan_top.proofs.ExplainLemmas.{closed_refused, rose_later, show_explained}
 use Rattle.graspan_top.proofs.StageLemmas.{Grow, refused_not_done}
@@ -37,8 +37,11 @@ pub returns-in_err-store-clause-printed : goal.returns-in_err-store-clause-print
 returns-in_err-store-clause-printed g c =
     let D = g.D.Disk in
     let show : Option (List ℕ) = option_map (λ l. l.now) c.args.show in
+    let x : Given = record { told = g.I.Inputs.told c.args.inputs.now; tells = D.tells; before = D.seen c.args.disk.now } in
+    let now = c.closed_store.new in
+    let stages = closed_stages x c.args.files.now.edges.now c.args.files.now.grammar.now (D.seen now.disk) (rises_in g.I.Inputs D c.args.inputs.now now.inputs c.args.disk.now now.disk) in
     status_at (λ s. PrintsFirst D.tells (IsRunText (D.seen c.closed_store.new.disk) show) (g.O.Sink.told c.args.out.now) (g.O.Sink.told c.args.out.now) s) c.from_residual.result c.in_err-store.field-0.0 c.from_residual.ensures.1
-    (nothing_first D.tells (IsRunText (D.seen c.closed_store.new.disk) show) (g.O.Sink.told c.args.out.now) c.in_err-store.field-0.0 (refused_not_done _ c.in_err-store.field-0.0 c.in_err-store.ensures.refused))
+    (nothing_first D.tells (IsRunText (D.seen c.closed_store.new.disk) show) (g.O.Sink.told c.args.out.now) c.in_err-store.field-0.0 (refused_not_done stages c.in_err-store.field-0.0 c.in_err-store.ensures.refused))
 
 pub returns-clause-explained : goal.returns-clause-explained
 returns-clause-explained g c =
@@ -75,8 +78,12 @@ returns-clause-exact g c =
 
 pub returns-in_err-store-clause-exact : goal.returns-in_err-store-clause-exact
 returns-in_err-store-clause-exact g c =
+    let D = g.D.Disk in
+    let x : Given = record { told = g.I.Inputs.told c.args.inputs.now; tells = D.tells; before = D.seen c.args.disk.now } in
+    let now = c.closed_store.new in
+    let stages = closed_stages x c.args.files.now.edges.now c.args.files.now.grammar.now (D.seen now.disk) (rises_in g.I.Inputs D c.args.inputs.now now.inputs c.args.disk.now now.disk) in
     λ tells gt et tg te left done.
-    absurd (status_at (λ s. s ≡ Done → ⊥) c.from_residual.result c.in_err-store.field-0.0 c.from_residual.ensures.1 (refused_not_done _ c.in_err-store.field-0.0 c.in_err-store.ensures.refused) done)
+    absurd (status_at (λ s. s ≡ Done → ⊥) c.from_residual.result c.in_err-store.field-0.0 c.from_residual.ensures.1 (refused_not_done stages c.in_err-store.field-0.0 c.in_err-store.ensures.refused) done)
 
 pub returns-in_err-store-clause-begun : goal.returns-in_err-store-clause-begun
 returns-in_err-store-clause-begun g c =
