@@ -159,10 +159,10 @@ module _ (tells : Bool) (c : Contents) (s : OpenStore) (held : IsTrue tells → 
         query_passed = both_passed (finished_stages tells c rose) (known_stage tells c label from to ∷ printing (wants_one from)) (finished_passed done rose) (known_passed, (tt, tt))
 
 -- no store was found, or none without work left
-module _ (tells : Bool) (c : Contents) (rose out_rose : Type 0) where
-  pub not_finished : (e : Status) → Refuses (found_stages tells c rose) e → Refuses (finished_stages tells c rose) e
-  not_finished e h = refuses_by (found_stages tells c rose) (finished_stages tells c rose) (in_front (found_stages tells c rose) (done_stage tells c ∷ [])) e h
+pub not_finished : (tells : Bool) (c : Contents) (rose : Type 0) (e : Status) → Refuses (found_stages tells c rose) e → Refuses (finished_stages tells c rose) e
+not_finished tells c rose e h = refuses_by (found_stages tells c rose) (finished_stages tells c rose) (in_front (found_stages tells c rose) (done_stage tells c ∷ [])) e h
 
+module _ (tells : Bool) (c : Contents) (rose out_rose : Type 0) where
   pub parts_not_found : (e : Status) → Refuses (found_stages tells c rose) e → Explained (parts_stages tells c rose out_rose) e
   parts_not_found e h = refused_by (found_stages tells c rose) (parts_stages tells c rose out_rose) (in_front (found_stages tells c rose) (printing_stage ⊥ out_rose blames_none ∷ [])) e h
 
