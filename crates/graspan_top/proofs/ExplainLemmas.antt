@@ -94,7 +94,7 @@ module _ (x : Given) (edges grammar : List ℕ) where
   pub closed_more : (after : Contents) (part whole : Rises) → Grow part whole → Follow (closed_stages x edges grammar after part) (closed_stages x edges grammar after whole)
   closed_more after part whole grow =
       both_follow (ready_stages x edges grammar part) (ready_stages x edges grammar whole) (closing_stage x edges grammar after part.disk ∷ []) (closing_stage x edges grammar after whole.disk ∷ []) (ready_more part whole grow)
-          (counts_more (closing_stage x edges grammar after part.disk).refuses ⊥ whole.disk ⊥ (λ h. h) grow.disk (λ h. h), λ p. p, tt)
+      (counts_more (closing_stage x edges grammar after part.disk).refuses ⊥ whole.disk ⊥ (λ h. h) grow.disk (λ h. h), λ p. p, tt)
 
   abbrev last_stages : Option (List ℕ) → Contents → Rises → List Stage
   last_stages show after rose = label_stage x.tells after show ∷ printing_stage rose.disk rose.writes (BlamesPrinting x edges grammar after) ∷ []
@@ -257,7 +257,7 @@ module _ (x : Given) (edges grammar : List ℕ) where
   pub closed_refused : (show : Option (List ℕ)) (after : Contents) (part whole : Rises) → Grow part whole → (s : Status) → Refuses (closed_stages x edges grammar after part) s → Explained (run_stages x edges grammar show after whole) s
   closed_refused show after part whole grow s h =
       refused_by (closed_stages x edges grammar after part) (run_stages x edges grammar show after whole)
-          (λ why k. in_front (closed_stages x edges grammar after whole) (last_stages show after whole) why (first_more (closed_stages x edges grammar after part) (closed_stages x edges grammar after whole) (closed_more after part whole grow) why k)) s h
+      (λ why k. in_front (closed_stages x edges grammar after whole) (last_stages show after whole) why (first_more (closed_stages x edges grammar after part) (closed_stages x edges grammar after whole) (closed_more after part whole grow) why k)) s h
 
   module _ (accepts : Accepts x edges grammar) where
     -- the closing is refused
@@ -307,5 +307,5 @@ module _ (x : Given) (edges grammar : List ℕ) where
       pub show_explained : (show : Option (List ℕ)) (dr wr : Type 0) → (dr → rose.disk) → (wr → rose.writes) → (status : Status) → Explained (show_stages s x.tells after show dr wr) status → Explained (run_stages x edges grammar show after rose) status
       show_explained show dr wr d w status h =
           explained_by (show_stages s x.tells after show dr wr) (run_stages x edges grammar show after rose)
-              (λ why k. behind (closed_stages x edges grammar after rose) (last_stages show after rose) closed_passed why (first_more (show_stages s x.tells after show dr wr) (last_stages show after rose) (show_more show dr wr d w) why k))
-              (λ p. both_passed (closed_stages x edges grammar after rose) (last_stages show after rose) closed_passed (passed_more (show_stages s x.tells after show dr wr) (last_stages show after rose) (show_more show dr wr d w) p)) status h
+          (λ why k. behind (closed_stages x edges grammar after rose) (last_stages show after rose) closed_passed why (first_more (show_stages s x.tells after show dr wr) (last_stages show after rose) (show_more show dr wr d w) why k))
+          (λ p. both_passed (closed_stages x edges grammar after rose) (last_stages show after rose) closed_passed (passed_more (show_stages s x.tells after show dr wr) (last_stages show after rose) (show_more show dr wr d w) p)) status h

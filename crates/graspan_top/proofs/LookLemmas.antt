@@ -172,7 +172,7 @@ module _ (tells : Bool) (c : Contents) (rose out_rose : Type 0) where
   pub query_not_found : (label : List ℕ) (from : ℕ) (to : Option ℕ) (e : Status) → Refuses (finished_stages tells c rose) e → Explained (query_stages tells c label from to rose out_rose) e
   query_not_found label from to e h =
       refused_by (finished_stages tells c rose) (query_stages tells c label from to rose out_rose)
-          (in_front (finished_stages tells c rose) (known_stage tells c label from to ∷ printing_stage rose out_rose (BlamesLoading tells c (wants_one from)) ∷ [])) e h
+      (in_front (finished_stages tells c rose) (known_stage tells c label from to ∷ printing_stage rose out_rose (BlamesLoading tells c (wants_one from)) ∷ [])) e h
 
 -- counts that rose in a part rose in the whole
 module _ (tells : Bool) (c : Contents) (rose rose' out_rose out_rose' : Type 0) (more : rose → rose') (out_more : out_rose → out_rose') where
@@ -189,12 +189,12 @@ module _ (tells : Bool) (c : Contents) (rose rose' out_rose out_rose' : Type 0) 
   finished_more : Follow (finished_stages tells c rose) (finished_stages tells c rose')
   finished_more =
       both_follow (found_stages tells c rose) (found_stages tells c rose') (done_stage tells c ∷ []) (done_stage tells c ∷ []) found_more
-          (counts_more (done_stage tells c).refuses ⊥ ⊥ ⊥ (λ h. h) (λ h. h) (λ h. h), λ p. p, tt)
+      (counts_more (done_stage tells c).refuses ⊥ ⊥ ⊥ (λ h. h) (λ h. h) (λ h. h), λ p. p, tt)
 
   pub parts_more : Follow (parts_stages tells c rose out_rose) (parts_stages tells c rose' out_rose')
   parts_more =
       both_follow (found_stages tells c rose) (found_stages tells c rose') (printing_stage ⊥ out_rose blames_none ∷ []) (printing_stage ⊥ out_rose' blames_none ∷ []) found_more
-          (counts_more (printing_stage ⊥ out_rose blames_none).refuses ⊥ ⊥ out_rose' (λ h. h) (λ h. h) out_more, λ p. p, tt)
+      (counts_more (printing_stage ⊥ out_rose blames_none).refuses ⊥ ⊥ out_rose' (λ h. h) (λ h. h) out_more, λ p. p, tt)
 
   pub dump_more : Follow (dump_stages tells c rose out_rose) (dump_stages tells c rose' out_rose')
   dump_more =
@@ -203,4 +203,4 @@ module _ (tells : Bool) (c : Contents) (rose rose' out_rose out_rose' : Type 0) 
   pub query_more : (label : List ℕ) (from : ℕ) (to : Option ℕ) → Follow (query_stages tells c label from to rose out_rose) (query_stages tells c label from to rose' out_rose')
   query_more label from to =
       both_follow (finished_stages tells c rose) (finished_stages tells c rose') (known_stage tells c label from to ∷ printing_stage rose out_rose (BlamesLoading tells c (wants_one from)) ∷ []) (known_stage tells c label from to ∷ printing_stage rose' out_rose' (BlamesLoading tells c (wants_one from)) ∷ []) finished_more
-          (counts_more (known_stage tells c label from to).refuses ⊥ ⊥ ⊥ (λ h. h) (λ h. h) (λ h. h), λ p. p, printing_more (BlamesLoading tells c (wants_one from)))
+      (counts_more (known_stage tells c label from to).refuses ⊥ ⊥ ⊥ (λ h. h) (λ h. h) (λ h. h), λ p. p, printing_more (BlamesLoading tells c (wants_one from)))

@@ -1,5 +1,6 @@
 use Rattle.std.proofs.Common.{◌≡◌, ℕ, List, Option, Some, sym, ap, subst, ◌∙◌}
 use Rattle.std.specs.Prelude.{IsTrue, option_map}
+use Rattle.disk_model.specs.Disk.{Contents}
 use Rattle.command_words.specs.declared.command.Command.{Command}
 use Rattle.command_words.specs.Command.{Said, run, said}
 use Rattle.graspan_top.specs.Call.{IsExplained, the_call}
@@ -52,3 +53,21 @@ returns-in-Run-clause-begun g c =
     let O = g.O.Sink in
     let inputs = g.I.Inputs.told c.args.inputs.now in
     subst (λ (k : Command). Begins (knows D.tells inputs (said k)) (IsBegunOf inputs (D.seen c.run.new.disk) (said k)) (O.told c.args.out.now) (O.told c.run.new.out) (status_of c.run.result)) (sym c.in-Run.is) c.run.ensures.begun
+
+pub returns-in-Run-clause-explained : goal.returns-in-Run-clause-explained
+returns-in-Run-clause-explained g c =
+    let D = g.D.Disk in
+    let I = g.I.Inputs in
+    let O = g.O.Sink in
+    let a = c.args in
+    let now = c.run.new in
+    let k = the_call I D O a.inputs.now now.inputs a.disk.now now.disk a.out.now now.out in
+    subst (λ (m : Command). IsExplained k (said m) (status_of c.run.result)) (sym c.in-Run.is) c.run.ensures.explained
+
+pub returns-in-Query-clause-begun : goal.returns-in-Query-clause-begun
+returns-in-Query-clause-begun g c =
+    let D = g.D.Disk in
+    let O = g.O.Sink in
+    let inputs = g.I.Inputs.told c.args.inputs.now in
+    let before = subst (λ (k : Command). Begins (knows D.tells inputs (said k)) (IsBegunOf inputs (D.seen c.args.disk.now) (said k)) (O.told c.args.out.now) (O.told c.query.new.out) (status_of c.query.result)) (sym c.in-Query.is) c.query.ensures.begun in
+    subst (λ (s : Contents). Begins (knows D.tells inputs (said c.args.command)) (IsBegunOf inputs s (said c.args.command)) (O.told c.args.out.now) (O.told c.query.new.out) (status_of c.query.result)) (sym c.query.ensures.looks.same_seen) before

@@ -27,11 +27,11 @@ returns-in-Ok-clause-explained g c = λ d reading.
     let part = rises_of I D O c.args.inputs.now now.inputs c.args.disk.now now.disk c.args.out.now now.out in
     let whole = rises_of I D O c.args.inputs.now now.inputs c.args.disk.now now.disk c.args.out.now c.end.new.out in
     let grow : Grow part whole =
-        record {
-          reads = λ name h. h;
-          disk = λ h. h;
-          writes = rose_later (O.faults c.args.out.now) (O.faults c.args.out.now) (O.faults now.out) (O.faults c.end.new.out) (omega arith) c.end.ensures.writes;
-        } in
+    record {
+      reads = λ name h. h;
+      disk = λ h. h;
+      writes = rose_later (O.faults c.args.out.now) (O.faults c.args.out.now) (O.faults now.out) (O.faults c.end.new.out) (omega arith) c.end.ensures.writes;
+    } in
     let k = said c.in-Ok.command in
     let same : k ≡ d = one_reading c.args.words.now k d c.in-Ok.ensures.reading reading in
     subst (λ (k : Said). Explained (stages_of x after whole k) c.end.result) same

@@ -80,7 +80,7 @@ returns-clause-explained g c =
     let number_is = subst (λ (m : Manifest). slice_get m.labels c.in_ok-number.number.0 ≡ Some a.label.now) c.manifest.ensures.manifest c.in_ok-number.ensures.number in
     let vertices = subst (λ (m : Manifest). AreVerticesOf m a.ends.from a.ends.to) c.manifest-2.ensures.manifest c.in_ok-known.ensures.known in
     query_passed D.tells (D.seen a.disk.now) s found.held found.done (Rose (D.faults a.disk.now) (D.faults c.print_query.new.disk)) (Rose (O.faults a.out.now) (O.faults c.print_query.new.out)) a.label.now a.ends.from a.ends.to
-        (has_label s.manifest.labels a.label.now c.in_ok-number.number.0 number_is, vertices)
+    (has_label s.manifest.labels a.label.now c.in_ok-number.number.0 number_is, vertices)
 
 pub returns-in_err-print_query-clause-printed : goal.returns-in_err-print_query-clause-printed
 returns-in_err-print_query-clause-printed g c =

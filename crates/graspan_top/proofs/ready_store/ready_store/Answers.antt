@@ -32,11 +32,11 @@ returns-in_err-found_or_made-clause-refused g c =
     let part = rises_in I D was now c.args.disk.now c.found_or_made.new.disk in
     let whole = rises_in I D c.args.inputs.now now c.args.disk.now c.found_or_made.new.disk in
     let grow : Grow part whole =
-        record {
-          reads = λ name. rose_later (I.faults c.args.inputs.now name) (I.faults was name) (I.faults now name) (I.faults now name) (c.read_grammar_file.ensures.keeps.others name) (omega arith);
-          disk = λ h. h;
-          writes = λ h. h;
-        } in
+    record {
+      reads = λ name. rose_later (I.faults c.args.inputs.now name) (I.faults was name) (I.faults now name) (I.faults now name) (c.read_grammar_file.ensures.keeps.others name) (omega arith);
+      disk = λ h. h;
+      writes = λ h. h;
+    } in
     let f = c.in_err-found_or_made.field-0.0 in
     if_err c.from_residual-in_err-found_or_made.result (of_store f) _ c.from_residual-in_err-found_or_made.ensures.1
     (store_refuses (ready_stages x edges grammar whole) f (told_later x edges grammar (I.told was) part whole c.read_grammar_file.ensures.keeps.kept grow (why_of f) c.in_err-found_or_made.ensures.refused))
