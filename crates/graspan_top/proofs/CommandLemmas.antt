@@ -1,48 +1,53 @@
 -- What a command explains, whichever it is.
 use Rattle.std.proofs.Common.{◌≡◌, ◌⊎◌, inl, inr, ℕ, List, Bool, Option, refl}
 use Rattle.disk_model.specs.Disk.{Contents}
-use Rattle.store_law.specs.Left.{IsDone}
 use Rattle.command_words.specs.declared.fault.WordsFault.{WordsFault}
 use Rattle.command_words.specs.declared.fault.WordsFault.TheVariants as words
 use Rattle.command_words.specs.Command.{Said, run, query, emit, dump, parts}
-use Rattle.graspan_top.specs.Command.{Explains, IsBegunOf}
+use Rattle.graspan_top.specs.Command.{IsBegunOf, stages_of}
 use Rattle.graspan_top.specs.Emission.{IsEmitText}
 use Rattle.graspan_top.specs.Faults.{of_words}
 use Rattle.graspan_top.specs.Given.{Given}
 use Rattle.graspan_top.specs.Printed.{Begins}
+use Rattle.graspan_top.specs.Refusals.{Explained, Rises}
 use Rattle.graspan_top.specs.Run.{IsRunBegun}
-use Rattle.graspan_top.specs.Looks.{IsAny, IsDumpFront, IsPartsText, IsQueryText, IsKnownIn, IsUnfinished, IsUnknownIn, none_undone, none_unknown, wants_all, wants_none, wants_one}
+use Rattle.graspan_top.specs.Looks.{IsDumpFront, IsPartsText, IsQueryText}
 use Rattle.graspan_top.specs.declared.status.Status.{Status}
 use Rattle.graspan_top.specs.declared.status.Status.TheVariants.{Done, NoMemory, Words}
-use Rattle.graspan_top.proofs.EmitLemmas.{emit_later}
-use Rattle.graspan_top.proofs.ExplainLemmas.{explains_later}
-use Rattle.graspan_top.proofs.LookLemmas.{look_later}
+use Rattle.graspan_top.proofs.StageLemmas.{Follow, Grow, NoneForWords, no_words_refused}
+use Rattle.graspan_top.proofs.EmitLemmas.{emit_more}
+use Rattle.graspan_top.proofs.ExplainLemmas.{run_more}
+use Rattle.graspan_top.proofs.LookLemmas.{dump_more, parts_more, query_more}
 use Rattle.graspan_top.proofs.TextLemmas.{nothing_begun}
 
-module _ (x : Given) (after : Contents) (reads : List ℕ → Type 0) (dr wr : Type 0) where
-  pub said_later : (wr' : Type 0) → (wr → wr') → (c : Said) (s : Status) → Explains x after reads dr wr c s → Explains x after reads dr wr' c s
-  said_later wr' more (run edges grammar options show) s h = explains_later x edges grammar show after (reads edges) (reads grammar) dr wr (reads edges) (reads grammar) dr wr' (λ k. k) (λ k. k) (λ k. k) more s h
-  said_later wr' more (query label from to) s h = look_later x (wants_one from) (IsKnownIn label from to) IsUnfinished (IsUnknownIn label from to) dr wr wr' more s h
-  said_later wr' more (emit kind source) s h = emit_later (x.told source) kind (reads source) wr wr' more s h
-  said_later wr' more dump s h = look_later x wants_all IsDone IsUnfinished none_unknown dr wr wr' more s h
-  said_later wr' more parts s h = look_later x wants_none IsAny none_undone none_unknown dr wr wr' more s h
+module _ (x : Given) (after : Contents) where
+  -- counts that rose in a part rose in the whole
+  pub said_more : (part whole : Rises) → Grow part whole → (c : Said) → Follow (stages_of x after part c) (stages_of x after whole c)
+  said_more part whole grow (run edges grammar options show) = run_more x edges grammar show after part whole grow
+  said_more part whole grow (query label from to) = query_more x.tells x.before part.disk whole.disk part.writes whole.writes grow.disk grow.writes label from to
+  said_more part whole grow (emit kind source) = emit_more (x.told source) kind (part.reads source) (whole.reads source) part.writes whole.writes (grow.reads source) grow.writes
+  said_more part whole grow dump = dump_more x.tells x.before part.disk whole.disk part.writes whole.writes grow.disk grow.writes
+  said_more part whole grow parts = parts_more x.tells x.before part.disk whole.disk part.writes whole.writes grow.disk grow.writes
 
   -- words that were not read for want of memory
-  pub words_explain : (f : WordsFault) → (f ≡ words.Words → ⊥) → (c : Said) → Explains x after reads dr wr c (of_words f)
-  words_explain words.Words not c = absurd (not refl)
-  words_explain words.NoMemory not (run edges grammar options show) = tt
-  words_explain words.NoMemory not (query label from to) = tt
-  words_explain words.NoMemory not (emit kind source) = tt
-  words_explain words.NoMemory not dump = tt
-  words_explain words.NoMemory not parts = tt
+  pub words_explain : (rose : Rises) (f : WordsFault) → (f ≡ words.Words → ⊥) → (c : Said) → Explained (stages_of x after rose c) (of_words f)
+  words_explain rose words.Words not c = absurd (not refl)
+  words_explain rose words.NoMemory not (run edges grammar options show) = inl tt
+  words_explain rose words.NoMemory not (query label from to) = inl tt
+  words_explain rose words.NoMemory not (emit kind source) = inl tt
+  words_explain rose words.NoMemory not dump = inl tt
+  words_explain rose words.NoMemory not parts = inl tt
 
--- no command answers that the words have no reading
-pub explains_no_words : (x : Given) (after : Contents) (reads : List ℕ → Type 0) (dr wr : Type 0) (c : Said) → Explains x after reads dr wr c Words → ⊥
-explains_no_words x after reads dr wr (run edges grammar options show) h = h
-explains_no_words x after reads dr wr (query label from to) h = h
-explains_no_words x after reads dr wr (emit kind source) h = h
-explains_no_words x after reads dr wr dump h = h
-explains_no_words x after reads dr wr parts h = h
+  -- no command answers that the words have no reading
+  none_for_words : (rose : Rises) (c : Said) → NoneForWords (stages_of x after rose c)
+  none_for_words rose (run edges grammar options show) = (λ h. h, (λ h. h, (λ h. h, (λ h. h, (λ h. h, (λ h. h, (λ h. h, tt)))))))
+  none_for_words rose (query label from to) = (λ h. h, (λ h. h, (λ h. h, (λ h. h, (λ h. h, tt)))))
+  none_for_words rose (emit kind source) = (λ h. h, (λ h. h, tt))
+  none_for_words rose dump = (λ h. h, (λ h. h, (λ h. h, (λ h. h, tt))))
+  none_for_words rose parts = (λ h. h, (λ h. h, (λ h. h, tt)))
+
+  pub explains_no_words : (rose : Rises) (c : Said) → Explained (stages_of x after rose c) Words → ⊥
+  explains_no_words rose c h = no_words_refused (stages_of x after rose c) (none_for_words rose c) h
 
 pub words_back : (f : WordsFault) → of_words f ≡ Words → f ≡ words.Words
 words_back words.Words e = refl

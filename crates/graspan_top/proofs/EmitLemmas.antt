@@ -1,9 +1,7 @@
 -- The graph of a C file that was read up to a limit, and what is printed of it.
-use Rattle.std.proofs.Common.{◌≡◌, ◌∙◌, inl, inr, ℕ, ◌+◌, ◌<◌, ◌≤◌, List, Bool, Option, Some, None, Ok, Err, length, length-take, take, take-take, drop, refl, sym, ap, subst, arith}
+use Rattle.std.proofs.Common.{◌≡◌, ◌∙◌, inl, inr, ℕ, ◌+◌, ◌<◌, ◌≤◌, List, [], ◌∷◌, Bool, Option, Some, None, Ok, Err, length, length-take, take, take-take, drop, refl, sym, ap, subst, arith}
 use Rattle.std.specs.Prelude.{IsTrue, IfErr, Result, is_some}
-use Rattle.faults.specs.Reasons.{Implies}
-use Rattle.faults.specs.declared.kinds.InputFile.{InputFile}
-use Rattle.faults.specs.declared.kinds.InputFile.TheVariants.{Source}
+use Rattle.faults.specs.Reasons.{blames_none}
 use Rattle.faults.specs.declared.kinds.InputKind.{InputKind}
 use Rattle.faults.specs.declared.kinds.InputKind.TheVariants.{TooLong}
 use Rattle.io_edge.specs.Devices.{AppendsPrefix}
@@ -13,13 +11,13 @@ use Rattle.emit_list.specs.Vertices.{Listed}
 use Rattle.emit_list.specs.Printed.{list_bytes}
 use Rattle.graph_emit.specs.declared.fault.EmitKind.{EmitKind}
 use Rattle.source_graph.specs.Sources.{HasSourceFault, HaveOneGraph, IsSourceGraph, feeds, line_at, too_long, no_token, no_program, no_graph}
-use Rattle.graspan_top.specs.Emission.{EmitExplains, HasGraph, HasRefusal, IsEmitText, emit_causes, graph_kind, source_causes}
-use Rattle.graspan_top.specs.Faults.{Refuses}
+use Rattle.graspan_top.specs.Emission.{IsEmitText, emit_stages, graph_kind, source_stage}
 use Rattle.graspan_top.specs.Given.{WhereTold}
 use Rattle.graspan_top.specs.Printed.{IsNothingOr, TakesBegun, TakesPrefix}
+use Rattle.graspan_top.specs.Refusals.{Explained, Refuses, Stage}
+use Rattle.graspan_top.specs.Run.{printing_stage}
 use Rattle.graspan_top.specs.declared.status.Status.{Status}
-use Rattle.graspan_top.specs.declared.status.Status.TheVariants.{Done, Words, InputFault, OtherInput, ReadFault, DiskFault, WriteFault, NoMemory, BadStore, NoStore, Unfinished, NotKnown}
-use Rattle.graspan_top.proofs.ExplainLemmas.{refuses_more}
+use Rattle.graspan_top.proofs.StageLemmas.{Follow, counts_more, in_front, refused_by}
 
 -- ---- a file that was read up to a limit
 
@@ -44,57 +42,21 @@ source_fault kind file value line k (inr p) (no_token l column q short refused) 
 source_fault kind file value line k (inr p) (no_program tokens token q has wrong) = absurd (omega (arith, p.past, has.short))
 source_fault kind file value line k (inr p) (no_graph tokens program l q has only refused) = absurd (omega (arith, p.past, has.short))
 
--- ---- why the command answers
+-- ---- which stage refuses
 
-pub emit_later : (told : Option (List ℕ)) (kind : GraphKind) (rr wr wr' : Type 0) → (wr → wr') → (s : Status) → EmitExplains told kind rr wr s → EmitExplains told kind rr wr' s
-emit_later told kind rr wr wr' more Done h = h
-emit_later told kind rr wr wr' more Words h = h
-emit_later told kind rr wr wr' more (InputFault file line k) h = h
-emit_later told kind rr wr wr' more (OtherInput file place) h = h
-emit_later told kind rr wr wr' more ReadFault h = h
-emit_later told kind rr wr wr' more DiskFault h = h
-emit_later told kind rr wr wr' more WriteFault h = (h.0, more h.1)
-emit_later told kind rr wr wr' more NoMemory h = h
-emit_later told kind rr wr wr' more (BadStore file place k) h = h
-emit_later told kind rr wr wr' more NoStore h = h
-emit_later told kind rr wr wr' more (Unfinished i j) h = h
-emit_later told kind rr wr wr' more NotKnown h = h
-
-emit_refused : (told : Option (List ℕ)) (kind : GraphKind) (rr wr : Type 0) (s : Status) → Refuses (emit_causes told kind rr wr) s → EmitExplains told kind rr wr s
-emit_refused told kind rr wr Done h = absurd h
-emit_refused told kind rr wr Words h = h
-emit_refused told kind rr wr (InputFault file line k) h = h
-emit_refused told kind rr wr (OtherInput file place) h = h
-emit_refused told kind rr wr ReadFault h = h
-emit_refused told kind rr wr DiskFault h = h
-emit_refused told kind rr wr WriteFault h = h
-emit_refused told kind rr wr NoMemory h = h
-emit_refused told kind rr wr (BadStore file place k) h = h
-emit_refused told kind rr wr NoStore h = h
-emit_refused told kind rr wr (Unfinished i j) h = h
-emit_refused told kind rr wr NotKnown h = h
-
-source_implies : (told : Option (List ℕ)) (kind : GraphKind) (rr wr : Type 0) → Implies (source_causes told kind rr) (emit_causes told kind rr wr)
-source_implies told kind rr wr =
-    record {
-      reads = λ h. h;
-      disk = λ h. h;
-      writes = λ h. absurd h;
-      text = λ file line k h. h;
-      other = λ file place h. h;
-      bad = λ file place k h. h;
-      words = λ h. h;
-      none = λ h. h;
-      left = λ i j h. h;
-      unknown = λ h. h;
-    }
+-- a write that failed in a part failed in the whole
+pub emit_more : (told : Option (List ℕ)) (kind : GraphKind) (rr rr' wr wr' : Type 0) → (rr → rr') → (wr → wr') → Follow (emit_stages told kind rr wr) (emit_stages told kind rr' wr')
+emit_more told kind rr rr' wr wr' reads writes = (
+  counts_more (source_stage told kind rr).refuses rr' ⊥ ⊥ reads (λ h. h) (λ h. h),
+  λ p. p,
+  (counts_more (printing_stage ⊥ wr blames_none).refuses ⊥ ⊥ wr' (λ h. h) (λ h. h) writes, λ p. p, tt),
+)
 
 -- the file has no graph
-pub source_explains : (told : Option (List ℕ)) (kind : GraphKind) (rr wr : Type 0) (s : Status) → Refuses (source_causes told kind rr) s → EmitExplains told kind rr wr s
-source_explains told kind rr wr s h = emit_refused told kind rr wr s (refuses_more _ _ (source_implies told kind rr wr) s h)
-
-pub refused_not_done : (told : Option (List ℕ)) (kind : GraphKind) (rr : Type 0) (s : Status) → Refuses (source_causes told kind rr) s → s ≡ Done → ⊥
-refused_not_done told kind rr s h is = subst (Refuses (source_causes told kind rr)) is h
+pub source_refused : (told : Option (List ℕ)) (kind : GraphKind) (rr wr : Type 0) (s : Status) → Refuses (source_stage told kind rr ∷ []) s → Explained (emit_stages told kind rr wr) s
+source_refused told kind rr wr s h =
+    let a : List Stage = source_stage told kind rr ∷ [] in
+    refused_by a (emit_stages told kind rr wr) (in_front a (printing_stage ⊥ wr blames_none ∷ [])) s h
 
 -- ---- what is printed
 

@@ -1,4 +1,5 @@
 pub mod GrammarLemmas
+pub mod StageLemmas
 pub mod ExplainLemmas
 pub mod ReadyLemmas
 pub mod StopLemmas

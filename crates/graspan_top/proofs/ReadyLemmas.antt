@@ -26,17 +26,15 @@ use Rattle.store.specs.Import.{IsImportOf, IsNewStore, texts_of}
 use Rattle.closer.specs.Continuation.{Continues}
 use Rattle.closer.specs.Answers.{IsClosed}
 use Rattle.closer.proofs.LawLemmas.{rules_held, store_after}
-use Rattle.graspan_top.specs.Given.{Given, WhereTold}
-use Rattle.graspan_top.specs.Run.{Accepts, IsGoodGrammar, IsNew, IsOpenedAs, IsResumed}
+use Rattle.graspan_top.specs.Given.{Given}
+use Rattle.graspan_top.specs.Run.{IsOpenedAs}
 use Rattle.graspan_top.specs.Stages.{IsCopied, IsGrammarFile, IsReady}
+use Rattle.graspan_top.proofs.ExplainLemmas.{found_accepted, new_accepted}
 
 held_of : (s : OpenStore) (c : Contents) → IsHeldAlone s c → IsHeld s c
 held_of s c h = record { current = alone_law s.slot s.manifest c h.only; grammar = h.grammar }
 
 module _ (x : Given) (edges grammar text : List ℕ) (file : IsGrammarFile (x.told grammar) text) (seen : Contents) (images : Contents → Type 0) (honest : IsTrue x.tells → images seen) where
-  good_file : WhereTold (x.told grammar) IsGoodGrammar
-  good_file f told = subst IsGoodGrammar (file.is_file f told) file.good
-
   same_texts : (g e t : List ℕ) → x.told grammar ≡ Some g → t ≡ e → texts_of text t ≡ texts_of g e
   same_texts g e t told same = let f = file.is_file g told in rw (f, same) refl
 
@@ -44,7 +42,7 @@ module _ (x : Given) (edges grammar text : List ℕ) (file : IsGrammarFile (x.to
   pub import_ready : (limit : ℕ) (s : OpenStore) → (IsTrue x.tells → current_of x.before ≡ Ok Blank) → IsNewStore text (x.told edges) s → ((c : Contents) → images c → IsHeldAlone s c) → LeavesJust seen images → (IsTrue x.tells → IsImportOf text (x.told edges) limit seen s.manifest) → IsReady x edges grammar seen images s
   import_ready limit s blank new held synced imported =
       record {
-        accepts = inl (record { blank = blank; good = λ g tg. (good_file g tg, λ e te. subst AreGood (same_texts g e new.text tg (new.is_file e te)) new.good) });
+        accepts = new_accepted x edges grammar text file blank (λ g tg e te. subst AreGood (same_texts g e new.text tg (new.is_file e te)) new.good);
         held = held;
         synced = synced;
         opened =
@@ -67,9 +65,6 @@ module _ (x : Given) (edges grammar text : List ℕ) (file : IsGrammarFile (x.to
 
   -- a store was found
   module _ (s : OpenStore) (mid : Contents) (stays : IsTrue x.tells → Stays x.before mid) (opened : IsTrue x.tells → IsHeld s mid) (same : IsTrue x.tells → seen ≡ mid) where
-    copied : (f : ℕ) → f ≢ 0 → f ≢ 1 → IsTrue x.tells → mid f ≡ x.before f
-    copied f first second tells = (stays tells).others f first second
-
     held_now : IsTrue x.tells → IsHeld s seen
     held_now tells = rw (same tells) (opened tells)
 
@@ -84,21 +79,10 @@ module _ (x : Given) (edges grammar text : List ℕ) (file : IsGrammarFile (x.to
             let e : m ≡ s.manifest = cc in
             (parts, rw (same tells, ← e) st.rest)
 
-    pub found_current : IsTrue x.tells → current_of x.before ≡ Ok (At s.slot s.manifest)
-    found_current tells = sym (stays tells).same ∙ (opened tells).current
-
     pub found_ready : ((c : Contents) → images c → IsHeldAlone s c) → LeavesJust seen images → IsCopied (x.told grammar) x.tells (copy_of s.manifest Grammar mid) → IsCopied (x.told edges) x.tells (copy_of s.manifest Edges mid) → IsReady x edges grammar seen images s
     found_ready held synced is_grammar is_edges =
         record {
-          accepts =
-              inr
-              (record {
-                slot = s.slot;
-                manifest = s.manifest;
-                current = found_current;
-                same_grammar = λ g tg. (good_file g tg, λ tells. let c = copied 2 (omega arith) (omega arith) tells in rw (← c) (is_grammar g tg tells));
-                same_edges = λ e te tells. let c = copied 3 (omega arith) (omega arith) tells in rw (← c) (is_edges e te tells);
-              });
+          accepts = found_accepted x edges grammar text file mid s opened stays is_grammar is_edges;
           held = held;
           synced = synced;
           opened = λ tells. record { held = held_now tells; left = λ g e tg te left. left_now (texts_of g e) tells left };

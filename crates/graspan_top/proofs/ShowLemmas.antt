@@ -1,6 +1,7 @@
 -- The text of a run, piece by piece.
-use Rattle.std.proofs.Common.{◌≡◌, inl, inr, ℕ, ◌+◌, ◌<◌, ◌≤◌, Bool, List, [], ◌++◌, length, Option, Ok, Err, refl, sym, ◌∙◌, subst, arith}
-use Rattle.std.specs.Prelude.{IsTrue, IsErrAnd, OnErr, Result, slice_index_or}
+use Rattle.std.proofs.Common.{◌≡◌, inl, inr, ℕ, ◌+◌, ◌<◌, ◌≤◌, Bool, List, [], ◌++◌, length, Option, None, Some, Ok, Err, refl, sym, ◌∙◌, subst, arith}
+use Rattle.std.specs.Prelude.{IsTrue, IsErrAnd, OnErr, Result, slice_index_or, Contains, IfSome}
+use Rattle.faults.specs.Reasons.{Holds}
 use Rattle.graph_words.specs.declared.types.Born.{Born}
 use Rattle.graph_words.specs.declared.types.LabelId.{LabelId}
 use Rattle.graph_words.specs.declared.types.Rule.{Rule}
@@ -19,11 +20,17 @@ use Rattle.open_store.specs.PartRead.{IsRead}
 use Rattle.query_text.specs.declared.fault.AnswerFault.{AnswerFault}
 use Rattle.query_text.specs.declared.fault.AnswerFault.TheVariants as answers
 use Rattle.query_text.specs.Text.{head_text, tally_text}
-use Rattle.query_text.specs.Answered.{AreListedIn, AreRead}
+use Rattle.query_text.specs.Answered.{AreListedIn, AreRead, IsBlamed, print_causes, why_not_printed}
 use Rattle.graspan_top.specs.Faults.{of_answer}
+use Rattle.graspan_top.specs.Given.{WhereCurrent}
 use Rattle.graspan_top.specs.Printed.{IsNothingOr, PrintsFirst, TakesBegun, TakesPrefix}
+use Rattle.graspan_top.specs.Refusals.{ArePassed, Explained}
 use Rattle.graspan_top.specs.Run.{IsEnd, IsRunBegun, IsRunText, IsShownText, done_line}
-use Rattle.graspan_top.specs.Stages.{IsShowBegun, shown_text}
+use Rattle.graspan_top.specs.Stages.{IsShowBegun, show_stages, shown_text}
+use Rattle.graspan_top.specs.declared.status.Status.{Status}
+use Rattle.graspan_top.specs.declared.status.Status.TheVariants.{NotKnown}
+use Rattle.graspan_top.proofs.LookLemmas.{has_label, where_current, with_current}
+use Rattle.graspan_top.proofs.StageLemmas.{answer_refuses, refused_by}
 
 -- what a call that failed has taken
 pub takes_err : {U E : Type 0} (old new : Option (List ℕ)) (r : Result U E) (e : E) (text : List ℕ) → IsErrAnd r (λ x. x ≡ e) → AppendsPrefix old new text → Takes old new r text
@@ -99,3 +106,29 @@ show_begun s tells c show shown old new held done is begun t = go (begun t)
 -- no partition was read yet
 pub none_read : (s : OpenStore) (tells : Bool) (c : Contents) → AreRead s tells c 0 []
 none_read s tells c = record { within = omega arith; each = λ i lt. absurd (omega arith) }
+
+-- ---- the label that is shown
+
+shown_there : (names : List (List ℕ)) (show : Option (List ℕ)) (text : List ℕ) → IsShownText names [] show text → IfSome show (λ label. Contains names label)
+shown_there names None text h = tt
+shown_there names (Some label) text h = has_label names label h.0.0 h.1
+
+module _ (s : OpenStore) (tells : Bool) (c : Contents) (held : IsTrue tells → IsHeld s c) (show : Option (List ℕ)) (rose out_rose : Type 0) where
+  -- it isn't there
+  pub label_refused : (m : Manifest) → m ≡ s.manifest → (e : Status) → (e ≡ NotKnown) × (label : List ℕ) × (show ≡ Some label) × (Contains m.labels label → ⊥) → Explained (show_stages s tells c show rose out_rose) e
+  label_refused m same e (is, label, shown, lacks) =
+      let here = subst (λ (k : Manifest). Contains k.labels label → ⊥) same lacks in
+      subst (Explained (show_stages s tells c show rose out_rose)) (sym is) (inl (label, shown, with_current tells c s held (λ k. Contains k.labels label → ⊥) here))
+
+  -- or it is
+  module _ (shown : Option LabelId) (is : (edges : List Born) → IsShownText s.manifest.labels edges show (shown_text shown edges)) where
+    label_passed : WhereCurrent tells c (λ m. IfSome show (λ label. Contains m.labels label))
+    label_passed = where_current tells c s held (λ m. IfSome show (λ label. Contains m.labels label)) (shown_there s.manifest.labels show (shown_text shown []) (is []))
+
+    pub show_refused : (f : AnswerFault) → Holds (print_causes out_rose rose (IsBlamed s tells c 0 (length s.manifest.parts))) (why_not_printed f) → Explained (show_stages s tells c show rose out_rose) (of_answer f)
+    show_refused f h =
+        let all = show_stages s tells c show rose out_rose in
+        refused_by all all (λ why k. k) (of_answer f) (answer_refuses all f (inr (label_passed, inl h)))
+
+    pub show_passed : ArePassed (show_stages s tells c show rose out_rose)
+    show_passed = (label_passed, (tt, tt))

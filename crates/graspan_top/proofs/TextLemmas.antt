@@ -35,7 +35,8 @@ use Rattle.text_page.proofs.Gathering.{nothing_taken}
 use Rattle.query_text.proofs.Reading.{ends_within}
 use Rattle.query_text.proofs.Showing.{handed_on}
 use Rattle.graspan_top.specs.Faults.{of_answer}
-use Rattle.graspan_top.specs.Looks.{HasCurrent, IsDumpFront, IsDumpText, IsPartEnd, IsPartsText, IsQueryText, count_line}
+use Rattle.graspan_top.specs.Given.{HasCurrent}
+use Rattle.graspan_top.specs.Looks.{IsDumpFront, IsDumpText, IsPartEnd, IsPartsText, IsQueryText, count_line}
 use Rattle.graspan_top.specs.Printed.{Begins, IsNothingOr, PrintsFirst, TakesBegun, TakesPrefix, status_of}
 use Rattle.graspan_top.specs.Run.{IsEnd}
 use Rattle.graspan_top.specs.declared.status.Status.{Status}

@@ -2,22 +2,22 @@
 use Rattle.std.specs.Prelude.{ℕ, Bool, is_some, List, Option}
 use Rattle.disk_model.specs.Disk.{Contents}
 use Rattle.command_words.specs.Command.{Said, run, query, emit, dump, parts}
-use Rattle.graspan_top.specs.Emission.{EmitExplains, IsEmitText}
+use Rattle.graspan_top.specs.Emission.{IsEmitText, emit_stages}
 use Rattle.graspan_top.specs.Given.{Given}
-use Rattle.graspan_top.specs.Printed.{IsNothingOr, Prints}
-use Rattle.graspan_top.specs.Run.{IsRunBegun, IsRunText, RunExplains}
-use Rattle.graspan_top.specs.Looks.{DumpExplains, IsDumpFront, IsDumpText, IsPartsText, IsQueryText, PartsExplains, QueryExplains}
-use Rattle.graspan_top.specs.declared.status.Status.{Status}
+use Rattle.graspan_top.specs.Printed.{IsNothingOr}
+use Rattle.graspan_top.specs.Refusals.{Rises, Stage}
+use Rattle.graspan_top.specs.Run.{IsRunBegun, IsRunText, run_stages}
+use Rattle.graspan_top.specs.Looks.{IsDumpFront, IsDumpText, IsPartsText, IsQueryText}
+use Rattle.graspan_top.specs.Looks.{dump_stages, parts_stages, query_stages}
 
--- why the command has this answer: reads_rose says of a name that its count of faults rose
-abbrev pub Explains : Given → Contents → (List ℕ → Type 0) → Type 0 → Type 0 → Said → Status → Type 0
-Explains x after reads_rose disk_rose out_rose
-    (run edges grammar options show) status = RunExplains x edges grammar show after (reads_rose edges)
-    (reads_rose grammar) disk_rose out_rose status
-Explains x after reads_rose disk_rose out_rose (query label from to) status = QueryExplains x label from to disk_rose out_rose status
-Explains x after reads_rose disk_rose out_rose (emit kind source) status = EmitExplains (x.told source) kind (reads_rose source) out_rose status
-Explains x after reads_rose disk_rose out_rose dump status = DumpExplains x disk_rose out_rose status
-Explains x after reads_rose disk_rose out_rose parts status = PartsExplains x disk_rose out_rose status
+-- the stages of a command, in the order in which they refuse. They speak of what is given, and a run's of what a read
+-- gives after it too.
+abbrev pub stages_of : Given → Contents → Rises → Said → List Stage
+stages_of x after rose (run edges grammar options show) = run_stages x edges grammar show after rose
+stages_of x after rose (query label from to) = query_stages x.tells x.before label from to rose.disk rose.writes
+stages_of x after rose (emit kind source) = emit_stages (x.told source) kind (rose.reads source) rose.writes
+stages_of x after rose dump = dump_stages x.tells x.before rose.disk rose.writes
+stages_of x after rose parts = parts_stages x.tells x.before rose.disk rose.writes
 
 -- whether its text is known: that of a C file where this is told, and else where the disk tells what it holds
 abbrev pub knows : Bool → (List ℕ → Option (List ℕ)) → Said → Bool

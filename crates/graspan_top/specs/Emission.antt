@@ -1,6 +1,6 @@
 -- What the command `emit` answers and prints.
-use Rattle.std.specs.Prelude.{◌≡◌, ℕ, List, Option, Some}
-use Rattle.faults.specs.Reasons.{Causes, no_cause}
+use Rattle.std.specs.Prelude.{◌≡◌, ℕ, List, [], ◌∷◌, Option, Some}
+use Rattle.faults.specs.Reasons.{blames_none, no_cause}
 use Rattle.faults.specs.declared.kinds.InputFile.{InputFile}
 use Rattle.faults.specs.declared.kinds.InputFile.TheVariants.{Source}
 use Rattle.faults.specs.declared.kinds.InputKind.{InputKind}
@@ -11,10 +11,9 @@ use Rattle.emit_list.specs.Printed.{list_bytes}
 use Rattle.graph_emit.specs.declared.fault.EmitKind.{EmitKind}
 use Rattle.graph_emit.specs.declared.fault.EmitKind.TheVariants.{Alias, Null}
 use Rattle.source_graph.specs.Sources.{HasSourceFault, IsSourceGraph}
-use Rattle.graspan_top.specs.Faults.{Refuses}
 use Rattle.graspan_top.specs.Given.{WhereTold}
-use Rattle.graspan_top.specs.declared.status.Status.{Status}
-use Rattle.graspan_top.specs.declared.status.Status.TheVariants.{Done}
+use Rattle.graspan_top.specs.Refusals.{Stage}
+use Rattle.graspan_top.specs.Run.{printing_stage}
 
 -- what the graph is made for
 abbrev pub graph_kind : GraphKind → EmitKind
@@ -38,16 +37,14 @@ abbrev pub HasRefusal : Option (List ℕ) → GraphKind → InputFile → ℕ �
 HasRefusal told kind Source line k = WhereTold told (λ s. HasSourceFault (graph_kind kind) s line k)
 HasRefusal told kind _ line k = ⊥
 
--- why no graph was made of the file: its count rose, or this is its first refusal
-abbrev pub source_causes : Option (List ℕ) → GraphKind → Type 0 → Causes
-source_causes told kind read_rose = record no_cause { reads = read_rose; text = HasRefusal told kind }
+-- The file is read, and has a graph.
+abbrev pub source_stage : Option (List ℕ) → GraphKind → Type 0 → Stage
+source_stage told kind read_rose =
+    record {
+      refuses = record no_cause { reads = read_rose; text = HasRefusal told kind };
+      passed = HasGraph told kind;
+    }
 
--- and why it was not printed: a write failed, of a file that has a graph
-abbrev pub emit_causes : Option (List ℕ) → GraphKind → Type 0 → Type 0 → Causes
-emit_causes told kind read_rose out_rose =
-    record no_cause { reads = read_rose; text = HasRefusal told kind; writes = HasGraph told kind × out_rose }
-
--- why the command answers as it does
-abbrev pub EmitExplains : Option (List ℕ) → GraphKind → Type 0 → Type 0 → Status → Type 0
-EmitExplains told kind read_rose out_rose Done = HasGraph told kind
-EmitExplains told kind read_rose out_rose status = Refuses (emit_causes told kind read_rose out_rose) status
+-- the stages of the command. None calls the disk.
+abbrev pub emit_stages : Option (List ℕ) → GraphKind → Type 0 → Type 0 → List Stage
+emit_stages told kind read_rose out_rose = source_stage told kind read_rose ∷ printing_stage ⊥ out_rose blames_none ∷ []

@@ -1,6 +1,7 @@
 pub mod Codes
 pub mod Names
 pub mod Faults
+pub mod Refusals
 pub mod Given
 pub mod Printed
 pub mod Run

@@ -1,9 +1,9 @@
 -- What a run answers, prints and leaves.
-use Rattle.std.specs.Prelude.{◌≡◌, ◌⊎◌, ℕ, true, IsTrue, List, [], ◌∷◌, ◌++◌, length, slice_get, Contains, codes, Option, Some, None, Ok}
+use Rattle.std.specs.Prelude.{◌≡◌, ◌⊎◌, ℕ, true, Bool, IsTrue, List, [], ◌∷◌, ◌++◌, length, slice_get, Contains, codes, Option, Some, None, Ok, IfSome}
 use Rattle.graph_words.specs.declared.types.LabelId.{LabelId}
 use Rattle.graph_words.specs.declared.types.Born.{Born}
 use Rattle.graph_words.specs.declared.types.Rule.{Rule}
-use Rattle.faults.specs.Reasons.{Causes}
+use Rattle.faults.specs.Reasons.{disk_causes, no_cause}
 use Rattle.faults.specs.declared.kinds.InputFile.{InputFile}
 use Rattle.faults.specs.declared.kinds.InputKind.{InputKind}
 use Rattle.faults.specs.declared.kinds.InputFile.TheVariants.{Grammar, Edges}
@@ -22,18 +22,16 @@ use Rattle.manifest_switch.specs.Steps.{Stays}
 use Rattle.store_law.specs.Texts.{AreGood, Texts}
 use Rattle.store_law.specs.Listed.{AreListed}
 use Rattle.store_law.specs.Left.{IsDone, IsLeft, IsStoreOf}
-use Rattle.open_store.specs.Answers.{DiffersFirst, copy_of}
+use Rattle.open_store.specs.Answers.{DiffersFirst, compare_causes, copy_of}
 use Rattle.open_store.specs.Copy.{IsCopyRead}
 use Rattle.open_store.specs.Opened.{IsBadStore}
 use Rattle.open_store.specs.Store.{IsHeld, OpenStore}
 use Rattle.store.specs.Import.{texts_of}
 use Rattle.closer.specs.Answers.{BlamesOnTheWay}
 use Rattle.query_text.specs.Text.{answers_text, head_text, tally_text}
-use Rattle.query_text.specs.Answered.{AreRead, IsBlamed}
-use Rattle.graspan_top.specs.Faults.{Refuses}
-use Rattle.graspan_top.specs.Given.{Given, WhereTold}
-use Rattle.graspan_top.specs.declared.status.Status.{Status}
-use Rattle.graspan_top.specs.declared.status.Status.TheVariants.{Done}
+use Rattle.query_text.specs.Answered.{AreRead, IsBlamed, print_causes}
+use Rattle.graspan_top.specs.Given.{Given, HasCurrentWith, WhereCurrent, WhereTold}
+use Rattle.graspan_top.specs.Refusals.{ArePassed, Rises, Stage, no_rise}
 
 -- ---- what a run prints
 
@@ -82,23 +80,6 @@ IsRunBegun c show text = IsRunFront c text ⊎ IsRunText c show text
 abbrev pub IsGoodGrammar : List ℕ → Type 0
 IsGoodGrammar grammar = grammar_fault grammar ≡ None
 
--- The disk held no store, and neither file has a fault.
-pub record IsNew (x : Given) (edges grammar : List ℕ) : Type 0 where
-  pub blank : IsTrue x.tells → current_of x.before ≡ Ok Blank
-  pub good : WhereTold (x.told grammar) (λ g. IsGoodGrammar g × WhereTold (x.told edges) (λ e. AreGood (texts_of g e)))
-
--- The disk held a store, of which the copies are the files.
-pub record IsResumed (x : Given) (edges grammar : List ℕ) : Type 0 where
-  pub slot : Slot
-  pub manifest : Manifest
-  pub current : IsTrue x.tells → current_of x.before ≡ Ok (At slot manifest)
-  pub same_grammar : WhereTold (x.told grammar) (λ g. IsGoodGrammar g × (IsTrue x.tells → g ≡ copy_of manifest Grammar x.before))
-  pub same_edges : WhereTold (x.told edges) (λ e. IsTrue x.tells → e ≡ copy_of manifest Edges x.before)
-
--- no refusal holds that comes before the closing
-abbrev pub Accepts : Given → List ℕ → List ℕ → Type 0
-Accepts x edges grammar = IsNew x edges grammar ⊎ IsResumed x edges grammar
-
 -- The contents hold the open store. Where the disk held what stopped runs of these files leave, it is a store of them.
 pub record IsOpenedAs (x : Given) (edges grammar : List ℕ) (seen : Contents) (s : OpenStore) : Type 0 where
   pub held : IsHeld s seen
@@ -118,68 +99,133 @@ StopsLeave images moment left_since told edges grammar old new = (g e : List ℕ
     → told edges ≡ Some e → ((c : Contents) → images old c → IsLeft (texts_of g e) c)
     → LeavesOnly moment left_since old new (IsLeft (texts_of g e))
 
--- ---- why a run answers as it does
+-- ---- the order in which a run refuses, stage by stage
 
--- an open store's copy of a text differs from the file first at this place. Of the edges this is said where the grammar is the same.
-abbrev pub DiffersIn : Given → List ℕ → List ℕ → Manifest → InputFile → ℕ → Type 0
-DiffersIn x edges grammar m Grammar place = WhereTold (x.told grammar) (λ g. IsGoodGrammar g × DiffersFirst g (copy_of m Grammar x.before) place)
-DiffersIn x edges grammar m Edges place = WhereTold (x.told grammar)
-    (λ g. IsGoodGrammar g × (g ≡ copy_of m Grammar x.before))
-    × WhereTold (x.told edges) (λ e. DiffersFirst e (copy_of m Edges x.before) place)
-DiffersIn x edges grammar m _ place = ⊥
-
--- why a file of the store is blamed: opening refuses it, or it names no partition where one is loaded for the closing or the printing
-pub data Blames (x : Given) (edges grammar : List ℕ) (after : Contents) : ℕ → ℕ → FormKind → Type 0 where
-  opening : {file place : ℕ} {kind : FormKind} → IsBadStore x.before file place kind → Blames x edges grammar after file place kind
-  closing : {file place : ℕ} {kind : FormKind} (seen : Contents) (s : OpenStore) → BeginsWith x seen
-      → IsOpenedAs x edges grammar seen s → BlamesOnTheWay s true seen file place kind
-      → Blames x edges grammar after file place kind
-  printing : {file place : ℕ} {kind : FormKind} (s : OpenStore) → IsOpenedAs x edges grammar after s
-      → IsBlamed s true after 0 (length s.manifest.parts) file place kind
-      → Blames x edges grammar after file place kind
-
--- the label that is shown has no number in the store that was closed
-pub record IsUnknown (c : Contents) (label : List ℕ) : Type 0 where
-  pub slot : Slot
-  pub manifest : Manifest
-  pub current : current_of c ≡ Ok (At slot manifest)
-  pub done : IsDone manifest
-  pub none : Contains manifest.labels label → ⊥
-
--- the first fault of a file: of the grammar, or of the edges, of which this is said where the disk held no store and
--- the grammar is good
-abbrev pub HasFirstFault : Given → List ℕ → List ℕ → InputFile → ℕ → InputKind → Type 0
-HasFirstFault x edges grammar Grammar line kind = WhereTold (x.told grammar)
+-- the grammar file's first fault
+abbrev pub HasGrammarFault : Option (List ℕ) → InputFile → ℕ → InputKind → Type 0
+HasGrammarFault told Grammar line kind = WhereTold told
     (λ g. grammar_fault g ≡ Some (record { line = line; kind = kind }))
-HasFirstFault x edges grammar Edges line kind = (IsTrue x.tells → current_of x.before ≡ Ok Blank)
-    × WhereTold (x.told grammar) (λ g. IsGoodGrammar g
-    × WhereTold (x.told edges) (λ e. edges_fault 0 (grammar_names g) e
-    ≡ Some (record { line = line; kind = kind })))
-HasFirstFault x edges grammar _ line kind = ⊥
+HasGrammarFault told _ line kind = ⊥
 
--- Why a run is refused. The last four say that a count of faults rose: for the edge file's name, for the grammar's, of
--- the disk, and of what is printed to. A first fault, a difference, a failed write and an unknown label say that no
--- refusal of the two files holds that comes before them; a failed read of the edge file, a failed disk and a broken
--- file say it of the grammar file alone.
-abbrev pub run_causes : Given → List ℕ → List ℕ → Option (List ℕ) → Contents → Type 0 → Type 0 → Type 0 → Type 0 → Causes
-run_causes x edges grammar show after edges_rose grammar_rose disk_rose out_rose =
+-- The grammar file is read, and has no fault.
+abbrev pub grammar_stage : Option (List ℕ) → Type 0 → Stage
+grammar_stage told read_rose =
     record {
-      reads = grammar_rose ⊎ (WhereTold (x.told grammar) IsGoodGrammar × edges_rose);
-      disk = WhereTold (x.told grammar) IsGoodGrammar × disk_rose;
-      writes = Accepts x edges grammar × out_rose;
-      text = HasFirstFault x edges grammar;
-      other = λ file place. IsTrue x.tells → (slot : Slot) × (m : Manifest)
-          × (current_of x.before ≡ Ok (At slot m)) × DiffersIn x edges grammar m file place;
-      bad = λ file place kind. WhereTold (x.told grammar) IsGoodGrammar
-          × (IsTrue x.tells → Blames x edges grammar after file place kind);
-      words = ⊥;
-      none = ⊥;
-      left = λ i j. ⊥;
-      unknown = Accepts x edges grammar × ((label : List ℕ) × (show ≡ Some label) × (IsTrue x.tells → IsUnknown after label));
+      refuses = record no_cause { reads = read_rose; text = HasGrammarFault told };
+      passed = WhereTold told IsGoodGrammar;
     }
 
--- why a run answers as it does
-abbrev pub RunExplains : Given → List ℕ → List ℕ → Option (List ℕ) → Contents → Type 0 → Type 0 → Type 0 → Type 0 → Status → Type 0
-RunExplains x edges grammar show after edges_rose grammar_rose disk_rose out_rose Done = Accepts x edges grammar
-RunExplains x edges grammar show after edges_rose grammar_rose disk_rose out_rose status =
-    Refuses (run_causes x edges grammar show after edges_rose grammar_rose disk_rose out_rose) status
+-- The disk holds a store, or it is blank.
+abbrev pub store_stage : Bool → Contents → Type 0 → Stage
+store_stage tells c disk_rose =
+    record {
+      refuses = disk_causes disk_rose (λ file place kind. IsTrue tells → IsBadStore c file place kind);
+      passed = IsTrue tells → (current_of c ≡ Ok Blank) ⊎ ((s : OpenStore) × IsHeld s c);
+    }
+
+-- an open store's copy of the file is the file
+abbrev pub IsStored : Given → InputFile → Option (List ℕ) → Type 0
+IsStored x file told = WhereCurrent x.tells x.before (λ m. WhereTold told (λ text. text ≡ copy_of m file x.before))
+
+-- it differs from the file first at this place
+abbrev pub DiffersFromStored : Given → InputFile → Option (List ℕ) → InputFile → ℕ → Type 0
+DiffersFromStored x file told blamed place = (blamed ≡ file)
+    × HasCurrentWith x.tells x.before (λ m. WhereTold told (λ text. DiffersFirst text (copy_of m file x.before) place))
+
+-- The grammar file is the open store's copy of it.
+abbrev pub same_grammar_stage : Given → List ℕ → Type 0 → Type 0 → Stage
+same_grammar_stage x grammar read_rose disk_rose =
+    record {
+      refuses = compare_causes read_rose disk_rose (DiffersFromStored x Grammar (x.told grammar));
+      passed = IsStored x Grammar (x.told grammar);
+    }
+
+-- where the disk is blank, and tells it
+abbrev pub WhereBlank : Given → Type 0 → Type 0
+WhereBlank x P = IsTrue x.tells → current_of x.before ≡ Ok Blank → P
+
+-- the first fault of the edge file, behind the names of the grammar: of a file that is taken to a blank disk
+abbrev pub HasEdgesFault : Given → List ℕ → List ℕ → InputFile → ℕ → InputKind → Type 0
+HasEdgesFault x edges grammar file line kind = (file ≡ Edges) × (IsTrue x.tells → current_of x.before ≡ Ok Blank)
+    × WhereTold (x.told grammar) (λ g. WhereTold (x.told edges)
+    (λ e. edges_fault 0 (grammar_names g) e ≡ Some (record { line = line; kind = kind })))
+
+-- The edge file is the open store's copy of it, or the disk is blank and it has no fault. The copy that is made of it
+-- is blamed only where the disk doesn't tell what it holds.
+abbrev pub edges_stage : Given → List ℕ → List ℕ → Type 0 → Type 0 → Stage
+edges_stage x edges grammar read_rose disk_rose =
+    record {
+      refuses =
+          record no_cause {
+            reads = read_rose;
+            disk = disk_rose;
+            text = HasEdgesFault x edges grammar;
+            other = DiffersFromStored x Edges (x.told edges);
+            bad = λ file place kind. IsTrue x.tells → ⊥;
+          };
+      passed = IsStored x Edges (x.told edges)
+          × WhereBlank x (WhereTold (x.told grammar) (λ g. WhereTold (x.told edges) (λ e. AreGood (texts_of g e))));
+    }
+
+-- the stages before the closing
+abbrev pub ready_stages : Given → List ℕ → List ℕ → Rises → List Stage
+ready_stages x edges grammar rose =
+    grammar_stage (x.told grammar) (rose.reads grammar)
+    ∷ store_stage x.tells x.before rose.disk
+    ∷ same_grammar_stage x grammar (rose.reads grammar) rose.disk
+    ∷ edges_stage x edges grammar (rose.reads edges) rose.disk
+    ∷ []
+
+-- no refusal holds that comes before the closing
+abbrev pub Accepts : Given → List ℕ → List ℕ → Type 0
+Accepts x edges grammar = ArePassed (ready_stages x edges grammar no_rise)
+
+-- A partition that is loaded for the closing isn't what this file spells: that of a store on the way, from the one with
+-- which the closing began.
+pub record BlamesClosing (x : Given) (edges grammar : List ℕ) (file place : ℕ) (kind : FormKind) : Type 0 where
+  pub seen : Contents
+  pub store : OpenStore
+  pub begins : BeginsWith x seen
+  pub opened : IsOpenedAs x edges grammar seen store
+  pub blames : BlamesOnTheWay store true seen file place kind
+
+-- The store is closed: it has no work left.
+abbrev pub closing_stage : Given → List ℕ → List ℕ → Contents → Type 0 → Stage
+closing_stage x edges grammar after disk_rose =
+    record {
+      refuses = disk_causes disk_rose
+          (λ file place kind. IsTrue x.tells → BlamesClosing x edges grammar file place kind);
+      passed = IsTrue x.tells → (s : OpenStore) × IsOpenedAs x edges grammar after s × IsDone s.manifest;
+    }
+
+-- The store has the label that is shown, where one is.
+abbrev pub label_stage : Bool → Contents → Option (List ℕ) → Stage
+label_stage tells c show =
+    record {
+      refuses = record no_cause {
+        unknown = (label : List ℕ) × (show ≡ Some label) × HasCurrentWith tells c (λ m. Contains m.labels label → ⊥);
+      };
+      passed = WhereCurrent tells c (λ m. IfSome show (λ label. Contains m.labels label));
+    }
+
+-- Everything is printed. What that is, is said by the text of the command.
+abbrev pub printing_stage : Type 0 → Type 0 → (ℕ → ℕ → FormKind → Type 0) → Stage
+printing_stage disk_rose out_rose bad = record { refuses = print_causes out_rose disk_rose bad; passed = Unit {0} }
+
+-- a partition that is loaded for the printing isn't what this file spells
+abbrev pub BlamesPrinting : Given → List ℕ → List ℕ → Contents → ℕ → ℕ → FormKind → Type 0
+BlamesPrinting x edges grammar after file place kind = IsTrue x.tells → (s : OpenStore)
+    × IsOpenedAs x edges grammar after s × IsBlamed s true after 0 (length s.manifest.parts) file place kind
+
+-- the stages up to a store that is closed
+abbrev pub closed_stages : Given → List ℕ → List ℕ → Contents → Rises → List Stage
+closed_stages x edges grammar after rose =
+    ready_stages x edges grammar rose ++ (closing_stage x edges grammar after rose.disk ∷ [])
+
+-- The stages of a run: up to a store that is closed, the label that is shown, the printing.
+abbrev pub run_stages : Given → List ℕ → List ℕ → Option (List ℕ) → Contents → Rises → List Stage
+run_stages x edges grammar show after rose =
+    closed_stages x edges grammar after rose
+    ++ (label_stage x.tells after show
+    ∷ printing_stage rose.disk rose.writes (BlamesPrinting x edges grammar after)
+    ∷ [])

@@ -135,7 +135,7 @@ pub fn graspan<I: Inputs, D: Disk, O: Sink>(
         × (AreUnread words.now → (inputs.new ≡ inputs.old) × (disk.new ≡ disk.old)
         × RefusesWords (the_call I.Inputs D.Disk O.Sink inputs.old inputs.new disk.old disk.new out.old out.new) result) }
 
-    // Else each answer has its cause in the files, in what the disk holds, or in a count of faults.
+    // Else the first stage of the command that refuses explains the answer, and at Done every stage is passed.
     ensures explained { (c : Said) → Reading words.now c
         → IsExplained (the_call I.Inputs D.Disk O.Sink inputs.old inputs.new disk.old disk.new out.old out.new) c result }
 

@@ -1,10 +1,10 @@
 //! The command `emit`: the graph of a C file.
-ghost use Rattle.std.specs.Prelude.{◌≡◌, ◌≢◌, ◌≤◌, ℕ, List, IfErr, IfOk, is_some};
+ghost use Rattle.std.specs.Prelude.{◌≡◌, ◌≤◌, ℕ, List, [], ◌∷◌, IfErr, IfOk, is_some};
 ghost use Rattle.io_edge.specs.View.{KeepsInputs, ReadRose, WriteRose};
 ghost use Rattle.source_graph.specs.Sources.{IsSourceGraph};
 ghost use Rattle.graspan_top.specs.declared.status.Status.TheVariants.{Done};
-ghost use Rattle.graspan_top.specs.Emission.{EmitExplains, IsEmitText, graph_kind as kind_of_graph, source_causes};
-ghost use Rattle.graspan_top.specs.Faults.{Refuses};
+ghost use Rattle.graspan_top.specs.Emission.{IsEmitText, emit_stages, graph_kind as kind_of_graph, source_stage};
+ghost use Rattle.graspan_top.specs.Refusals.{Explained, Refuses};
 ghost use Rattle.graspan_top.specs.Given.{WhereTold};
 ghost use Rattle.graspan_top.specs.Printed.{Begins, IsNothingOr, PrintsFirst, status_of};
 
@@ -37,8 +37,8 @@ fn graph_of_file<I: Inputs>(
     inputs: &mut I,
 ) -> Result<EmitList, Status>
     ensures graph { IfOk result (λ list. WhereTold (I.told inputs.old source.now) (λ s. IsSourceGraph (kind_of_graph kind) s list)) }
-    ensures refused { IfErr result (Refuses (source_causes (I.told inputs.old source.now) kind
-        (ReadRose I.Inputs inputs.old inputs.new source.now))) }
+    ensures refused { IfErr result (Refuses (source_stage (I.told inputs.old source.now) kind
+        (ReadRose I.Inputs inputs.old inputs.new source.now) ∷ [])) }
     ensures keeps { KeepsInputs I.Inputs inputs.old inputs.new }
 {
     let text = match read_whole(alloc, inputs, source, SOURCE_LIMIT) {
@@ -65,8 +65,8 @@ pub(crate) fn emit<I: Inputs, O: Sink>(
     inputs: &mut I,
     out: &mut O,
 ) -> Result<(), Status>
-    ensures explained { EmitExplains (I.told inputs.old source.now) kind (ReadRose I.Inputs inputs.old inputs.new source.now)
-        (WriteRose O.Sink out.old out.new) (status_of result) }
+    ensures explained { Explained (emit_stages (I.told inputs.old source.now) kind
+        (ReadRose I.Inputs inputs.old inputs.new source.now) (WriteRose O.Sink out.old out.new)) (status_of result) }
     ensures printed { PrintsFirst (is_some (I.told inputs.old source.now)) (IsEmitText (I.told inputs.old source.now) kind)
         (O.told out.old) (O.told out.new) (status_of result) }
     ensures begun { Begins (is_some (I.told inputs.old source.now)) (IsNothingOr (IsEmitText (I.told inputs.old source.now) kind))

@@ -1,8 +1,9 @@
 //! The grammar file is read and checked.
-ghost use Rattle.std.specs.Prelude.{◌≤◌, ℕ, List, IfOk, IfErr};
+ghost use Rattle.std.specs.Prelude.{◌≡◌, ◌≤◌, ℕ, List, [], ◌∷◌, IfOk, IfErr};
 ghost use Rattle.io_edge.specs.View.{KeepsInputs, ReadRose};
-ghost use Rattle.graspan_top.specs.Faults.{Refuses};
-ghost use Rattle.graspan_top.specs.Stages.{IsGrammarFile, grammar_causes};
+ghost use Rattle.graspan_top.specs.Refusals.{Refuses};
+ghost use Rattle.graspan_top.specs.Run.{grammar_stage};
+ghost use Rattle.graspan_top.specs.Stages.{IsGrammarFile};
 
 use crate::status::Status;
 use grammar_norm::{GrammarFault, read_grammar};
@@ -20,8 +21,8 @@ pub(crate) fn read_grammar_file<I: Inputs>(
     name: &str,
 ) -> Result<Vec<u8>, Status>
     ensures read { IfOk result (λ text. IsGrammarFile (I.told inputs.old name.now) text.items) }
-    ensures refused { IfErr result (Refuses (grammar_causes (I.told inputs.old name.now)
-        (ReadRose I.Inputs inputs.old inputs.new name.now))) }
+    ensures refused { IfErr result (Refuses (grammar_stage (I.told inputs.old name.now)
+        (ReadRose I.Inputs inputs.old inputs.new name.now) ∷ [])) }
     ensures keeps { KeepsInputs I.Inputs inputs.old inputs.new }
 {
     let bytes = match read_whole(alloc, inputs, name, GRAMMAR_LIMIT) {

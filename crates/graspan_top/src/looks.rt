@@ -1,6 +1,5 @@
 //! The commands that only read a store: `query`, `dump` and `parts`.
-ghost use Rattle.std.specs.Prelude.{◌≡◌, ◌≤◌, ◌<◌, ◌++◌, [], ℕ, List, Option, Some, IsTrue, IfErr, IfOk, OnOk, length};
-ghost use Rattle.graspan_top.specs.Faults.{Refuses};
+ghost use Rattle.std.specs.Prelude.{◌≡◌, ◌≤◌, ◌<◌, ◌++◌, [], ℕ, List, Some, IsTrue, IfErr, IfOk, OnOk, length};
 ghost use Rattle.faults.specs.Reasons.{HasReason};
 ghost use Rattle.io_edge.specs.View.{WriteRose};
 ghost use Rattle.io_edge.specs.Devices.{AppendsPrefix};
@@ -12,11 +11,11 @@ ghost use Rattle.open_store.specs.Store.{IsHeld};
 ghost use Rattle.query_text.specs.Text.{answers_in, answers_text};
 ghost use Rattle.query_text.specs.Answered.{IsBlamed, IsPrinted, first_asked, print_causes, why_not_printed};
 ghost use Rattle.graspan_top.specs.declared.status.Status.TheVariants.{NotKnown, Unfinished};
-ghost use Rattle.graspan_top.specs.Looks.{AreVerticesOf, DumpExplains, IsDumpFront, IsDumpText, IsPartsText};
-ghost use Rattle.graspan_top.specs.Looks.{IsQueryText, IsUnfinished, PartsExplains, QueryExplains};
-ghost use Rattle.graspan_top.specs.Looks.{count_line as the_count_line, none_undone};
+ghost use Rattle.graspan_top.specs.Looks.{AreVerticesOf, IsDumpFront, IsDumpText, IsPartsText, IsQueryText, IsUnfinished};
+ghost use Rattle.graspan_top.specs.Looks.{count_line as the_count_line, dump_stages, finished_stages, found_stages};
+ghost use Rattle.graspan_top.specs.Looks.{parts_stages, query_stages};
 ghost use Rattle.graspan_top.specs.Printed.{Begins, IsNothingOr, PrintsFirst, status_of};
-ghost use Rattle.graspan_top.specs.Stages.{find_causes};
+ghost use Rattle.graspan_top.specs.Refusals.{Explained, Refuses};
 
 use crate::labels::number_of;
 use crate::status::Status;
@@ -35,7 +34,7 @@ use store::{OpenMode, Opened, Store, open};
 fn found<D: Disk>(alloc: Global, disk: &mut D) -> Result<Store, Status>
     ensures held { IsTrue D.tells → IfOk result (λ s. IsHeld s (D.seen disk.old)) }
     ensures looks { OnlyLooks D.Disk disk.old disk.new }
-    ensures cause { IfErr result (Refuses (find_causes D.tells (D.seen disk.old) none_undone (DiskRose D.Disk disk.old disk.new))) }
+    ensures refused { IfErr result (Refuses (found_stages D.tells (D.seen disk.old) (DiskRose D.Disk disk.old disk.new))) }
 {
     match open(alloc, disk, OpenMode::Look)? {
         Opened::Blank => Err(Status::NoStore),
@@ -60,7 +59,7 @@ fn finished_store<D: Disk>(alloc: Global, disk: &mut D) -> Result<Store, Status>
     ensures held { IsTrue D.tells → IfOk result (λ s. IsHeld s (D.seen disk.old)) }
     ensures done { IfOk result (λ s. IsDone s.manifest) }
     ensures looks { OnlyLooks D.Disk disk.old disk.new }
-    ensures cause { IfErr result (Refuses (find_causes D.tells (D.seen disk.old) IsUnfinished (DiskRose D.Disk disk.old disk.new))) }
+    ensures refused { IfErr result (Refuses (finished_stages D.tells (D.seen disk.old) (DiskRose D.Disk disk.old disk.new))) }
 {
     let store = found(alloc, disk)?;
     finished(store.manifest())?;
@@ -73,10 +72,8 @@ pub(crate) fn parts<D: Disk, O: Sink>(
     disk: &mut D,
     out: &mut O,
 ) -> Result<(), Status>
-    ensures explained { (told : List ℕ → Option (List ℕ))
-        → PartsExplains (record { told = told; tells = D.tells; before = D.seen disk.old })
-        (DiskRose D.Disk disk.old disk.new) (WriteRose O.Sink out.old out.new)
-        (status_of result) }
+    ensures explained { Explained (parts_stages D.tells (D.seen disk.old) (DiskRose D.Disk disk.old disk.new)
+        (WriteRose O.Sink out.old out.new)) (status_of result) }
     ensures printed { PrintsFirst D.tells (IsPartsText (D.seen disk.old)) (O.told out.old) (O.told out.new) (status_of result) }
     ensures begun { Begins D.tells (IsNothingOr (IsPartsText (D.seen disk.old))) (O.told out.old) (O.told out.new) (status_of result) }
     ensures looks { OnlyLooks D.Disk disk.old disk.new }
@@ -88,10 +85,8 @@ pub(crate) fn parts<D: Disk, O: Sink>(
 
 /// Prints the edges of a store without work left.
 pub(crate) fn dump<D: Disk, O: Sink>(alloc: Global, disk: &mut D, out: &mut O) -> Result<(), Status>
-    ensures explained { (told : List ℕ → Option (List ℕ))
-        → DumpExplains (record { told = told; tells = D.tells; before = D.seen disk.old })
-        (DiskRose D.Disk disk.old disk.new) (WriteRose O.Sink out.old out.new)
-        (status_of result) }
+    ensures explained { Explained (dump_stages D.tells (D.seen disk.old) (DiskRose D.Disk disk.old disk.new)
+        (WriteRose O.Sink out.old out.new)) (status_of result) }
     ensures printed { PrintsFirst D.tells (IsDumpText (D.seen disk.old)) (O.told out.old) (O.told out.new) (status_of result) }
     ensures begun { Begins D.tells (IsNothingOr (IsDumpFront (D.seen disk.old))) (O.told out.old) (O.told out.new) (status_of result) }
     ensures looks { OnlyLooks D.Disk disk.old disk.new }
@@ -165,10 +160,8 @@ pub(crate) fn query<D: Disk, O: Sink>(
     ends: Ends,
     out: &mut O,
 ) -> Result<(), Status>
-    ensures explained { (told : List ℕ → Option (List ℕ))
-        → QueryExplains (record { told = told; tells = D.tells; before = D.seen disk.old }) label.now ends.from
-        ends.to (DiskRose D.Disk disk.old disk.new) (WriteRose O.Sink out.old out.new)
-        (status_of result) }
+    ensures explained { Explained (query_stages D.tells (D.seen disk.old) label.now ends.from ends.to
+        (DiskRose D.Disk disk.old disk.new) (WriteRose O.Sink out.old out.new)) (status_of result) }
     ensures printed { PrintsFirst D.tells (IsQueryText (D.seen disk.old) label.now ends.from ends.to)
         (O.told out.old) (O.told out.new) (status_of result) }
     ensures begun { Begins D.tells (IsNothingOr (IsQueryText (D.seen disk.old) label.now ends.from ends.to))

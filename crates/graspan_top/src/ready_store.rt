@@ -1,18 +1,15 @@
 //! A store of two files is made, or found and compared with them.
-ghost use Rattle.std.specs.Prelude.{◌≢◌, ◌≤◌, ◌⊎◌, ℕ, List, Option, IfOk, IfErr, OnOk, IsTrue};
-ghost use Rattle.disk_model.specs.Disk.{Contents};
+ghost use Rattle.std.specs.Prelude.{◌≡◌, ◌≤◌, ℕ, List, IfOk, IfErr, OnOk, IsTrue};
 ghost use Rattle.disk_model.specs.View.{DiskRose, OnlyLooks};
 ghost use Rattle.faults.specs.declared.kinds.InputFile.TheVariants.{Edges, Grammar};
-ghost use Rattle.faults.specs.Reasons.{HasReason};
 ghost use Rattle.store_fault.specs.Faults.{why_of};
 ghost use Rattle.io_edge.specs.View.{KeepsInputs, ReadRose};
-ghost use Rattle.open_store.specs.Answers.{compare_causes, copy_of};
-ghost use Rattle.graspan_top.specs.declared.status.Status.TheVariants.{Done};
-ghost use Rattle.graspan_top.specs.Faults.{of_store};
+ghost use Rattle.open_store.specs.Answers.{copy_of};
 ghost use Rattle.graspan_top.specs.Given.{Given as AGiven};
-ghost use Rattle.graspan_top.specs.Run.{BeginsWith, RunExplains};
+ghost use Rattle.graspan_top.specs.Refusals.{FirstRefusal, Refuses, rises_in};
+ghost use Rattle.graspan_top.specs.Run.{BeginsWith, ready_stages};
 ghost use Rattle.graspan_top.specs.Call.{MayBeStopped};
-ghost use Rattle.graspan_top.specs.Stages.{DiffersFromCopy, IsCopied, IsGrammarFile, IsReady};
+ghost use Rattle.graspan_top.specs.Stages.{IsCopied, IsGrammarFile, IsReady, compare_stages};
 
 use crate::grammar_file::read_grammar_file;
 use crate::status::Status;
@@ -39,10 +36,10 @@ fn compare<I: Inputs, D: Disk>(
     ensures same_grammar { OnOk result (IsCopied (I.told inputs.old files.now.grammar.now) D.tells
         (copy_of store.now.manifest Grammar (D.seen disk.old))) }
     ensures same_edges { OnOk result (IsCopied (I.told inputs.old files.now.edges.now) D.tells (copy_of store.now.manifest Edges (D.seen disk.old))) }
-    ensures cause { HasReason why_of (compare_causes (ReadRose I.Inputs inputs.old inputs.new files.now.grammar.now
-        ⊎ ReadRose I.Inputs inputs.old inputs.new files.now.edges.now) (DiskRose D.Disk disk.old disk.new)
-        (DiffersFromCopy (I.told inputs.old files.now.grammar.now) (I.told inputs.old files.now.edges.now) D.tells
-        (D.seen disk.old) store.now.manifest)) result }
+    ensures refused { IfErr result (λ fault. FirstRefusal (compare_stages (I.told inputs.old files.now.grammar.now)
+        (I.told inputs.old files.now.edges.now) D.tells (D.seen disk.old) store.now.manifest
+        (ReadRose I.Inputs inputs.old inputs.new files.now.grammar.now)
+        (ReadRose I.Inputs inputs.old inputs.new files.now.edges.now) (DiskRose D.Disk disk.old disk.new)) (why_of fault)) }
     ensures looks { OnlyLooks D.Disk disk.old disk.new }
     ensures keeps { KeepsInputs I.Inputs inputs.old inputs.new }
 {
@@ -73,12 +70,9 @@ fn found_or_made<I: Inputs, D: Disk>(
     ensures begins { IfOk result (λ _. IsTrue D.tells
         → BeginsWith (record { told = I.told inputs.old; tells = D.tells; before = D.seen disk.old })
         (D.seen disk.new)) }
-    ensures cause { IfErr result (λ fault. (show : Option (List ℕ)) (after : Contents)
-        → RunExplains (record { told = I.told inputs.old; tells = D.tells; before = D.seen disk.old })
-        files.now.edges.now files.now.grammar.now show after
-        (ReadRose I.Inputs inputs.old inputs.new files.now.edges.now)
-        (ReadRose I.Inputs inputs.old inputs.new files.now.grammar.now)
-        (DiskRose D.Disk disk.old disk.new) ⊥ (of_store fault)) }
+    ensures refused { IfErr result (λ fault. FirstRefusal (ready_stages
+        (record { told = I.told inputs.old; tells = D.tells; before = D.seen disk.old }) files.now.edges.now
+        files.now.grammar.now (rises_in I.Inputs D.Disk inputs.old inputs.new disk.old disk.new)) (why_of fault)) }
     ensures stops { MayBeStopped D.Disk (I.told inputs.old) files.now.edges.now files.now.grammar.now disk.old disk.new }
     ensures keeps { KeepsInputs I.Inputs inputs.old inputs.new }
     ensures later { D.faults disk.old ≤ D.faults disk.new }
@@ -106,13 +100,9 @@ pub(crate) fn ready_store<I: Inputs, D: Disk>(
     ensures begins { IfOk result (λ _. IsTrue D.tells
         → BeginsWith (record { told = I.told inputs.old; tells = D.tells; before = D.seen disk.old })
         (D.seen disk.new)) }
-    ensures cause { IfErr result (λ fault. (show : Option (List ℕ)) (after : Contents)
-        → RunExplains (record { told = I.told inputs.old; tells = D.tells; before = D.seen disk.old })
-        files.now.edges.now files.now.grammar.now show after
-        (ReadRose I.Inputs inputs.old inputs.new files.now.edges.now)
-        (ReadRose I.Inputs inputs.old inputs.new files.now.grammar.now)
-        (DiskRose D.Disk disk.old disk.new) ⊥ fault) }
-    ensures fails { IfErr result (λ fault. fault ≢ Done) }
+    ensures refused { IfErr result (Refuses (ready_stages
+        (record { told = I.told inputs.old; tells = D.tells; before = D.seen disk.old }) files.now.edges.now
+        files.now.grammar.now (rises_in I.Inputs D.Disk inputs.old inputs.new disk.old disk.new))) }
     ensures stops { MayBeStopped D.Disk (I.told inputs.old) files.now.edges.now files.now.grammar.now disk.old disk.new }
     ensures keeps { KeepsInputs I.Inputs inputs.old inputs.new }
     ensures later { D.faults disk.old ≤ D.faults disk.new }

@@ -1,10 +1,9 @@
 //! The command `run`: imports or resumes, closes and prints.
-ghost use Rattle.std.specs.Prelude.{◌≡◌, ◌≢◌, ◌≤◌, ◌++◌, ℕ, List, Option, Some, IsTrue, IfErr, IfOk, OnOk, OnErr, length, option_map};
-ghost use Rattle.graspan_top.specs.Faults.{Refuses};
+ghost use Rattle.std.specs.Prelude.{◌≡◌, ◌≤◌, ◌++◌, ℕ, List, Option, Some, IsTrue, IfErr, IfOk, OnOk, OnErr, length, option_map};
 ghost use Rattle.faults.specs.Reasons.{HasReason};
 ghost use Rattle.graph_words.specs.declared.types.Born.{Born as ABorn};
 ghost use Rattle.io_edge.specs.Devices.{AppendsPrefix, Takes};
-ghost use Rattle.io_edge.specs.View.{KeepsInputs, ReadRose, WriteRose};
+ghost use Rattle.io_edge.specs.View.{KeepsInputs, WriteRose};
 ghost use Rattle.closing_machine.specs.Parts.{all_edges};
 ghost use Rattle.disk_model.specs.Disk.{Contents};
 ghost use Rattle.disk_model.specs.View.{DiskRose, OnlyLooks};
@@ -17,9 +16,10 @@ ghost use Rattle.query_text.specs.Answered.{AreListedIn, IsBlamed, print_causes,
 ghost use Rattle.graspan_top.specs.declared.status.Status.TheVariants.{Done};
 ghost use Rattle.graspan_top.specs.Given.{Given as AGiven};
 ghost use Rattle.graspan_top.specs.Printed.{Begins, IsNothingOr, PrintsFirst, status_of};
-ghost use Rattle.graspan_top.specs.Run.{IsRunBegun, IsRunText, RunExplains, done_line};
+ghost use Rattle.graspan_top.specs.Refusals.{Explained, Refuses, rises_in, rises_of};
+ghost use Rattle.graspan_top.specs.Run.{IsRunBegun, IsRunText, closed_stages, done_line, run_stages};
 ghost use Rattle.graspan_top.specs.Call.{MayBeStopped};
-ghost use Rattle.graspan_top.specs.Stages.{IsReady, IsShowBegun, show_causes, shown_text};
+ghost use Rattle.graspan_top.specs.Stages.{IsReady, IsShowBegun, show_stages, shown_text};
 
 use crate::labels::shown_number;
 use crate::ready_store::{Files, ready_store};
@@ -95,8 +95,8 @@ fn show_run<D: Disk, O: Sink>(
 ) -> Result<(), Status>
     requires held { IsTrue D.tells → IsHeld store.now (D.seen disk.old) }
     requires done { IsDone store.now.manifest }
-    ensures explained { IfErr result (Refuses (show_causes store.now D.tells (D.seen disk.old) (option_map (λ l. l.now) show.entry)
-        (DiskRose D.Disk disk.old disk.new) (WriteRose O.Sink out.old out.new))) }
+    ensures explained { Explained (show_stages store.now D.tells (D.seen disk.old) (option_map (λ l. l.now) show.entry)
+        (DiskRose D.Disk disk.old disk.new) (WriteRose O.Sink out.old out.new)) (status_of result) }
     ensures printed { PrintsFirst D.tells (IsRunText (D.seen disk.old) (option_map (λ l. l.now) show.entry))
         (O.told out.old) (O.told out.new) (status_of result) }
     ensures begun { Begins D.tells (IsNothingOr (IsRunBegun (D.seen disk.old) (option_map (λ l. l.now) show.entry)))
@@ -120,13 +120,9 @@ fn closed_store<I: Inputs, D: Disk>(
         { told = I.told inputs.old; tells = D.tells; before = D.seen disk.old }) files.now.edges.now
         files.now.grammar.now (D.seen disk.new) (D.may_leave disk.new)) }
     ensures done { IfOk result (λ s. IsDone s.manifest) }
-    ensures cause { IfErr result (λ fault. (show : Option (List ℕ)) (after : Contents)
-        → RunExplains (record { told = I.told inputs.old; tells = D.tells; before = D.seen disk.old })
-        files.now.edges.now files.now.grammar.now show after
-        (ReadRose I.Inputs inputs.old inputs.new files.now.edges.now)
-        (ReadRose I.Inputs inputs.old inputs.new files.now.grammar.now)
-        (DiskRose D.Disk disk.old disk.new) ⊥ fault) }
-    ensures fails { IfErr result (λ fault. fault ≢ Done) }
+    ensures refused { IfErr result (Refuses (closed_stages
+        (record { told = I.told inputs.old; tells = D.tells; before = D.seen disk.old }) files.now.edges.now
+        files.now.grammar.now (D.seen disk.new) (rises_in I.Inputs D.Disk inputs.old inputs.new disk.old disk.new))) }
     ensures stops { MayBeStopped D.Disk (I.told inputs.old) files.now.edges.now files.now.grammar.now disk.old disk.new }
     ensures keeps { KeepsInputs I.Inputs inputs.old inputs.new }
     ensures later { D.faults disk.old ≤ D.faults disk.new }
@@ -145,12 +141,9 @@ pub(crate) fn run<I: Inputs, D: Disk, O: Sink>(
     disk: &mut D,
     out: &mut O,
 ) -> Result<(), Status>
-    ensures explained { RunExplains (record { told = I.told inputs.old; tells = D.tells; before = D.seen disk.old })
+    ensures explained { Explained (run_stages (record { told = I.told inputs.old; tells = D.tells; before = D.seen disk.old })
         files.now.edges.now files.now.grammar.now (option_map (λ l. l.now) show.entry) (D.seen disk.new)
-        (ReadRose I.Inputs inputs.old inputs.new files.now.edges.now)
-        (ReadRose I.Inputs inputs.old inputs.new files.now.grammar.now)
-        (DiskRose D.Disk disk.old disk.new) (WriteRose O.Sink out.old out.new)
-        (status_of result) }
+        (rises_of I.Inputs D.Disk O.Sink inputs.old inputs.new disk.old disk.new out.old out.new)) (status_of result) }
     ensures printed { PrintsFirst D.tells (IsRunText (D.seen disk.new) (option_map (λ l. l.now) show.entry))
         (O.told out.old) (O.told out.new) (status_of result) }
     ensures begun { Begins D.tells (IsNothingOr (IsRunBegun (D.seen disk.new) (option_map (λ l. l.now) show.entry)))

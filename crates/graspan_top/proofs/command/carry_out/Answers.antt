@@ -1,10 +1,10 @@
 use Rattle.std.proofs.Common.{◌≡◌, ℕ, List, Option, Some, sym, ap, subst, ◌∙◌}
 use Rattle.std.specs.Prelude.{IsTrue, option_map}
-use Rattle.faults.specs.Counts.{Rose}
+use Rattle.disk_model.specs.Disk.{Contents}
 use Rattle.command_words.specs.declared.command.Command.{Command}
 use Rattle.command_words.specs.Command.{Said, run, said}
-use Rattle.graspan_top.specs.Command.{Explains, IsBegunOf, knows}
-use Rattle.graspan_top.specs.Given.{Given}
+use Rattle.graspan_top.specs.Call.{IsExplained, the_call}
+use Rattle.graspan_top.specs.Command.{IsBegunOf, knows}
 use Rattle.graspan_top.specs.Printed.{Begins, status_of}
 use Rattle.graspan_top.proofs.command.carry_out.Goals as goal
 
@@ -22,24 +22,30 @@ returns-in-Query-clause-explained g c =
     let D = g.D.Disk in
     let I = g.I.Inputs in
     let O = g.O.Sink in
-    let x : Given = record { told = I.told c.args.inputs.now; tells = D.tells; before = D.seen c.args.disk.now } in
-    subst (λ (k : Command). Explains x (D.seen c.query.new.disk) (λ name. Rose (I.faults c.args.inputs.now name) (I.faults c.args.inputs.now name)) (Rose (D.faults c.args.disk.now) (D.faults c.query.new.disk)) (Rose (O.faults c.args.out.now) (O.faults c.query.new.out)) (said k) (status_of c.query.result)) (sym c.in-Query.is) (c.query.ensures.explained (I.told c.args.inputs.now))
+    let a = c.args in
+    let now = c.query.new in
+    let k = the_call I D O a.inputs.now a.inputs.now a.disk.now now.disk a.out.now now.out in
+    subst (λ (m : Command). IsExplained k (said m) (status_of c.query.result)) (sym c.in-Query.is) c.query.ensures.explained
 
 pub returns-in-Dump-clause-explained : goal.returns-in-Dump-clause-explained
 returns-in-Dump-clause-explained g c =
     let D = g.D.Disk in
     let I = g.I.Inputs in
     let O = g.O.Sink in
-    let x : Given = record { told = I.told c.args.inputs.now; tells = D.tells; before = D.seen c.args.disk.now } in
-    subst (λ (k : Command). Explains x (D.seen c.dump.new.disk) (λ name. Rose (I.faults c.args.inputs.now name) (I.faults c.args.inputs.now name)) (Rose (D.faults c.args.disk.now) (D.faults c.dump.new.disk)) (Rose (O.faults c.args.out.now) (O.faults c.dump.new.out)) (said k) (status_of c.dump.result)) (sym c.in-Dump.is) (c.dump.ensures.explained (I.told c.args.inputs.now))
+    let a = c.args in
+    let now = c.dump.new in
+    let k = the_call I D O a.inputs.now a.inputs.now a.disk.now now.disk a.out.now now.out in
+    subst (λ (m : Command). IsExplained k (said m) (status_of c.dump.result)) (sym c.in-Dump.is) c.dump.ensures.explained
 
 pub returns-in-Parts-clause-explained : goal.returns-in-Parts-clause-explained
 returns-in-Parts-clause-explained g c =
     let D = g.D.Disk in
     let I = g.I.Inputs in
     let O = g.O.Sink in
-    let x : Given = record { told = I.told c.args.inputs.now; tells = D.tells; before = D.seen c.args.disk.now } in
-    subst (λ (k : Command). Explains x (D.seen c.parts.new.disk) (λ name. Rose (I.faults c.args.inputs.now name) (I.faults c.args.inputs.now name)) (Rose (D.faults c.args.disk.now) (D.faults c.parts.new.disk)) (Rose (O.faults c.args.out.now) (O.faults c.parts.new.out)) (said k) (status_of c.parts.result)) (sym c.in-Parts.is) (c.parts.ensures.explained (I.told c.args.inputs.now))
+    let a = c.args in
+    let now = c.parts.new in
+    let k = the_call I D O a.inputs.now a.inputs.now a.disk.now now.disk a.out.now now.out in
+    subst (λ (m : Command). IsExplained k (said m) (status_of c.parts.result)) (sym c.in-Parts.is) c.parts.ensures.explained
 
 pub returns-in-Run-clause-begun : goal.returns-in-Run-clause-begun
 returns-in-Run-clause-begun g c =
@@ -47,3 +53,21 @@ returns-in-Run-clause-begun g c =
     let O = g.O.Sink in
     let inputs = g.I.Inputs.told c.args.inputs.now in
     subst (λ (k : Command). Begins (knows D.tells inputs (said k)) (IsBegunOf inputs (D.seen c.run.new.disk) (said k)) (O.told c.args.out.now) (O.told c.run.new.out) (status_of c.run.result)) (sym c.in-Run.is) c.run.ensures.begun
+
+pub returns-in-Run-clause-explained : goal.returns-in-Run-clause-explained
+returns-in-Run-clause-explained g c =
+    let D = g.D.Disk in
+    let I = g.I.Inputs in
+    let O = g.O.Sink in
+    let a = c.args in
+    let now = c.run.new in
+    let k = the_call I D O a.inputs.now now.inputs a.disk.now now.disk a.out.now now.out in
+    subst (λ (m : Command). IsExplained k (said m) (status_of c.run.result)) (sym c.in-Run.is) c.run.ensures.explained
+
+pub returns-in-Query-clause-begun : goal.returns-in-Query-clause-begun
+returns-in-Query-clause-begun g c =
+    let D = g.D.Disk in
+    let O = g.O.Sink in
+    let inputs = g.I.Inputs.told c.args.inputs.now in
+    let before = subst (λ (k : Command). Begins (knows D.tells inputs (said k)) (IsBegunOf inputs (D.seen c.args.disk.now) (said k)) (O.told c.args.out.now) (O.told c.query.new.out) (status_of c.query.result)) (sym c.in-Query.is) c.query.ensures.begun in
+    subst (λ (s : Contents). Begins (knows D.tells inputs (said c.args.command)) (IsBegunOf inputs s (said c.args.command)) (O.told c.args.out.now) (O.told c.query.new.out) (status_of c.query.result)) (sym c.query.ensures.looks.same_seen) before

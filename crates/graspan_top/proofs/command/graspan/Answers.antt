@@ -3,13 +3,15 @@ use Rattle.faults.specs.Counts.{Rose}
 use Rattle.disk_model.specs.Disk.{Contents}
 use Rattle.command_words.specs.Command.{Said, run, said}
 use Rattle.command_words.proofs.ReadingLemmas.{one_reading}
-use Rattle.graspan_top.specs.Command.{Explains, IsBegunOf, IsTextOf, knows}
+use Rattle.graspan_top.specs.Command.{IsBegunOf, IsTextOf, knows, stages_of}
 use Rattle.graspan_top.specs.Faults.{of_words}
 use Rattle.graspan_top.specs.Given.{Given}
 use Rattle.graspan_top.specs.Printed.{Begins, BeginsWhole, Prints, PrintsFirst, status_of}
 use Rattle.graspan_top.specs.declared.status.Status.{Status}
 use Rattle.graspan_top.specs.declared.status.Status.TheVariants.{Done}
-use Rattle.graspan_top.proofs.CommandLemmas.{nothing_begun_of, said_later, words_back, words_explain, words_not_done, words_or_memory, explains_no_words}
+use Rattle.graspan_top.specs.Refusals.{Explained, rises_of}
+use Rattle.graspan_top.proofs.StageLemmas.{Grow, explained_more}
+use Rattle.graspan_top.proofs.CommandLemmas.{nothing_begun_of, said_more, words_back, words_explain, words_not_done, words_or_memory, explains_no_words}
 use Rattle.graspan_top.proofs.ExplainLemmas.{rose_later}
 use Rattle.graspan_top.proofs.PrintLemmas.{begins, ends_later, nothing_first, prints}
 use Rattle.graspan_top.proofs.command.graspan.Goals as goal
@@ -20,16 +22,21 @@ returns-in-Ok-clause-explained g c = λ d reading.
     let I = g.I.Inputs in
     let O = g.O.Sink in
     let x : Given = record { told = I.told c.args.inputs.now; tells = D.tells; before = D.seen c.args.disk.now } in
-    let reads = λ (name : List ℕ). Rose (I.faults c.args.inputs.now name) (I.faults c.carry_out-ended.new.inputs name) in
-    let dr : Type 0 = Rose (D.faults c.args.disk.now) (D.faults c.carry_out-ended.new.disk) in
-    let after = D.seen c.carry_out-ended.new.disk in
-    let same : said c.in-Ok.command ≡ d = one_reading c.args.words.now (said c.in-Ok.command) d c.in-Ok.ensures.reading reading in
-    let wr : Type 0 = Rose (O.faults c.args.out.now) (O.faults c.carry_out-ended.new.out) in
-    let wr' : Type 0 = Rose (O.faults c.args.out.now) (O.faults c.end.new.out) in
-    let more = rose_later (O.faults c.args.out.now) (O.faults c.args.out.now) (O.faults c.carry_out-ended.new.out) (O.faults c.end.new.out) (omega arith) c.end.ensures.writes in
-    subst (λ (k : Said). Explains x after reads dr wr' k c.end.result) same
-    (subst (λ (s : Status). Explains x after reads dr wr' (said c.in-Ok.command) s) (sym c.end.ensures.status)
-    (said_later x after reads dr wr wr' more (said c.in-Ok.command) (status_of c.carry_out-ended.result) c.carry_out-ended.ensures.explained))
+    let now = c.carry_out-ended.new in
+    let after = D.seen now.disk in
+    let part = rises_of I D O c.args.inputs.now now.inputs c.args.disk.now now.disk c.args.out.now now.out in
+    let whole = rises_of I D O c.args.inputs.now now.inputs c.args.disk.now now.disk c.args.out.now c.end.new.out in
+    let grow : Grow part whole =
+    record {
+      reads = λ name h. h;
+      disk = λ h. h;
+      writes = rose_later (O.faults c.args.out.now) (O.faults c.args.out.now) (O.faults now.out) (O.faults c.end.new.out) (omega arith) c.end.ensures.writes;
+    } in
+    let k = said c.in-Ok.command in
+    let same : k ≡ d = one_reading c.args.words.now k d c.in-Ok.ensures.reading reading in
+    subst (λ (k : Said). Explained (stages_of x after whole k) c.end.result) same
+    (subst (Explained (stages_of x after whole k)) (sym c.end.ensures.status)
+    (explained_more (stages_of x after part k) (stages_of x after whole k) (said_more x after part whole grow k) (status_of c.carry_out-ended.result) c.carry_out-ended.ensures.explained))
 
 pub returns-in-Ok-clause-printed : goal.returns-in-Ok-clause-printed
 returns-in-Ok-clause-printed g c = λ d reading.
@@ -80,12 +87,12 @@ returns-in-Ok-clause-words g c =
     let I = g.I.Inputs in
     let O = g.O.Sink in
     let x : Given = record { told = I.told c.args.inputs.now; tells = D.tells; before = D.seen c.args.disk.now } in
-    let reads = λ (name : List ℕ). Rose (I.faults c.args.inputs.now name) (I.faults c.carry_out-ended.new.inputs name) in
-    let dr : Type 0 = Rose (D.faults c.args.disk.now) (D.faults c.carry_out-ended.new.disk) in
-    let wr : Type 0 = Rose (O.faults c.args.out.now) (O.faults c.carry_out-ended.new.out) in
-    let after = D.seen c.carry_out-ended.new.disk in (
-      (λ is d reading. explains_no_words x after reads dr wr (said c.in-Ok.command) (subst (λ (s : Status). Explains x after reads dr wr (said c.in-Ok.command) s) (sym c.end.ensures.status ∙ is) c.carry_out-ended.ensures.explained)),
-      (λ none. absurd (none (said c.in-Ok.command) c.in-Ok.ensures.reading)),
+    let now = c.carry_out-ended.new in
+    let after = D.seen now.disk in
+    let rose = rises_of I D O c.args.inputs.now now.inputs c.args.disk.now now.disk c.args.out.now now.out in
+    let k = said c.in-Ok.command in (
+      (λ is d reading. explains_no_words x after rose k (subst (Explained (stages_of x after rose k)) (sym c.end.ensures.status ∙ is) c.carry_out-ended.ensures.explained)),
+      (λ none. absurd (none k c.in-Ok.ensures.reading)),
     )
 
 pub returns-in-Err-clause-words : goal.returns-in-Err-clause-words
@@ -100,12 +107,11 @@ returns-in-Err-clause-explained g c = λ d reading.
     let D = g.D.Disk in
     let I = g.I.Inputs in
     let O = g.O.Sink in
-    let x : Given = record { told = I.told c.args.inputs.now; tells = D.tells; before = D.seen c.args.disk.now } in
-    let reads = λ (name : List ℕ). Rose (I.faults c.args.inputs.now name) (I.faults c.args.inputs.now name) in
-    let dr : Type 0 = Rose (D.faults c.args.disk.now) (D.faults c.args.disk.now) in
-    let wr : Type 0 = Rose (O.faults c.args.out.now) (O.faults c.end-in-Err.new.out) in
-    subst (λ (s : Status). Explains x (D.seen c.args.disk.now) reads dr wr d s) (sym (c.end-in-Err.ensures.status ∙ c.from.ensures))
-    (words_explain x (D.seen c.args.disk.now) reads dr wr c.in-Err.fault (λ e. c.in-Err.ensures.words e d reading) d)
+    let a = c.args in
+    let x : Given = record { told = I.told a.inputs.now; tells = D.tells; before = D.seen a.disk.now } in
+    let rose = rises_of I D O a.inputs.now a.inputs.now a.disk.now a.disk.now a.out.now c.end-in-Err.new.out in
+    subst (Explained (stages_of x (D.seen a.disk.now) rose d)) (sym (c.end-in-Err.ensures.status ∙ c.from.ensures))
+    (words_explain x (D.seen a.disk.now) rose c.in-Err.fault (λ e. c.in-Err.ensures.words e d reading) d)
 
 pub returns-in-Ok-clause-stops : goal.returns-in-Ok-clause-stops
 returns-in-Ok-clause-stops g c = λ edges grammar options show reading.

@@ -1,4 +1,4 @@
-use Rattle.std.proofs.Common.{ℕ, List, subst}
+use Rattle.std.proofs.Common.{ℕ, List, inl, subst}
 use Rattle.graph_emit.specs.declared.fault.EmitKind.{EmitKind}
 use Rattle.source_graph.specs.declared.graph.SourceFault.{SourceFault}
 use Rattle.source_graph.specs.Sources.{HasSourceFault, IsRefusal, IsSourceGraph}
@@ -14,10 +14,12 @@ returns-in-Ok-source_graph-clause-graph g c = λ file told.
     whole_source kind file c.in-Ok.text.items list (c.in-Ok.ensures.bytes file told) (subst (λ (t : List ℕ). IsSourceGraph kind t list) c.deref.ensures.value here)
 
 pub returns-in-Err-At-clause-refused : goal.returns-in-Err-At-clause-refused
-returns-in-Err-At-clause-refused g c = λ file told.
+returns-in-Err-At-clause-refused g c =
+    inl
+    (λ file told.
     let kind = graph_kind c.args.kind in
     let line = c.in-Err-At.line in
     let k = c.in-Err-At.kind in
     let here = subst (λ (f : SourceFault). IsRefusal c.graph_kind.result c.deref.result.now f) c.in-Err-At.field-0-is c.in-Err-At.ensures.fault in
     let there = subst (λ (x : EmitKind). HasSourceFault x c.deref.result.now line k) c.graph_kind.ensures here in
-    source_fault kind file c.in-Ok.text.items line k (c.in-Ok.ensures.bytes file told) (subst (λ (t : List ℕ). HasSourceFault kind t line k) c.deref.ensures.value there)
+    source_fault kind file c.in-Ok.text.items line k (c.in-Ok.ensures.bytes file told) (subst (λ (t : List ℕ). HasSourceFault kind t line k) c.deref.ensures.value there))

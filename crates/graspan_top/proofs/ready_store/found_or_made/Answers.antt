@@ -3,36 +3,48 @@ use Rattle.std.specs.Prelude.{IsTrue, IfErr}
 use Rattle.faults.specs.Counts.{Rose}
 use Rattle.disk_model.specs.Disk.{Contents}
 use Rattle.manifest_switch.specs.declared.slot.Found.TheVariants.{Blank}
-use Rattle.open_store.specs.Opened.{IsBadStore, IsOpened, IsOpenedAlone}
+use Rattle.store_fault.specs.Faults.{why_of}
+use Rattle.store.specs.Import.{import_causes}
+use Rattle.open_store.specs.Opened.{IsOpened, IsOpenedAlone}
 use Rattle.graspan_top.specs.Given.{Given}
 use Rattle.open_store.specs.declared.opened.Opened.{Opened as OpenedT}
-use Rattle.graspan_top.proofs.ExplainLemmas.{compare_handed, if_err, open_explains, rose_later}
-use Rattle.graspan_top.proofs.ReadyLemmas.{found_current, found_ready, import_ready_ok}
+use Rattle.graspan_top.specs.Refusals.{rises_in}
+use Rattle.graspan_top.proofs.ExplainLemmas.{by_reason, compare_refused, if_err, import_refused, open_refused, rose_later}
+use Rattle.graspan_top.proofs.ReadyLemmas.{found_ready, import_ready_ok}
 use Rattle.graspan_top.proofs.StopLemmas.{stops_importing, stops_looking, stops_opening}
 use Rattle.graspan_top.proofs.ready_store.found_or_made.Goals as goal
 
-pub returns-in_err-open-clause-cause : goal.returns-in_err-open-clause-cause
-returns-in_err-open-clause-cause g c =
+pub returns-in_err-open-clause-refused : goal.returns-in_err-open-clause-refused
+returns-in_err-open-clause-refused g c =
     let D = g.D.Disk in
     let x : Given = record { told = g.I.Inputs.told c.args.inputs.now; tells = D.tells; before = D.seen c.args.disk.now } in
     if_err c.from_residual.result c.in_err-open.field-0.0 _ c.from_residual.ensures.1
-    (λ show after. open_explains x c.args.files.now.edges.now c.args.files.now.grammar.now c.args.grammar.now c.requires show after _ _ (Rose (D.faults c.args.disk.now) (D.faults c.open.new.disk)) ⊥ _ (λ f p k bad. bad) c.in_err-open.field-0.0 c.in_err-open.ensures.cause)
+    (open_refused x c.args.files.now.edges.now c.args.files.now.grammar.now c.args.grammar.now c.requires (rises_in g.I.Inputs D c.args.inputs.now c.args.inputs.now c.args.disk.now c.open.new.disk) (why_of c.in_err-open.field-0.0) c.in_err-open.ensures.cause)
 
-pub returns-in_err-compare-in-Found-clause-cause : goal.returns-in_err-compare-in-Found-clause-cause
-returns-in_err-compare-in-Found-clause-cause g c =
+pub returns-in_err-compare-in-Found-clause-refused : goal.returns-in_err-compare-in-Found-clause-refused
+returns-in_err-compare-in-Found-clause-refused g c =
     let D = g.D.Disk in
     let x : Given = record { told = g.I.Inputs.told c.args.inputs.now; tells = D.tells; before = D.seen c.args.disk.now } in
-    let held = λ (tells : IsTrue D.tells). subst (IsOpened (D.seen c.open.new.disk)) c.in-Found.is (c.in_ok-open.ensures.opened tells) in
-    let current = λ (tells : IsTrue D.tells). sym (c.in_ok-open.ensures.stays tells).same ∙ (held tells).current in
-    let I = g.I.Inputs in
-    let gr : Type 0 = Rose (I.faults c.args.inputs.now c.args.files.now.grammar.now) (I.faults c.compare.new.inputs c.args.files.now.grammar.now) in
-    let er : Type 0 = Rose (I.faults c.args.inputs.now c.args.files.now.edges.now) (I.faults c.compare.new.inputs c.args.files.now.edges.now) in
     if_err c.from_residual-in_err-compare-in-Found.result c.in_err-compare-in-Found.field-0.0 _ c.from_residual-in_err-compare-in-Found.ensures.1
-    (λ show after.
-    compare_handed x c.args.files.now.edges.now c.args.files.now.grammar.now c.args.grammar.now c.requires (D.seen c.open.new.disk) c.in-Found.store.slot c.in-Found.store.manifest current c.in_ok-open.ensures.stays show after er gr
-    (Rose (D.faults c.open.new.disk) (D.faults c.compare.new.disk)) (Rose (D.faults c.args.disk.now) (D.faults c.compare.new.disk)) ⊥
+    (compare_refused x c.args.files.now.edges.now c.args.files.now.grammar.now c.args.grammar.now c.requires (D.seen c.open.new.disk) c.in-Found.store
+    (λ tells. subst (IsOpened (D.seen c.open.new.disk)) c.in-Found.is (c.in_ok-open.ensures.opened tells)) c.in_ok-open.ensures.stays
+    (rises_in g.I.Inputs D c.args.inputs.now c.compare.new.inputs c.args.disk.now c.compare.new.disk) (Rose (D.faults c.open.new.disk) (D.faults c.compare.new.disk))
     (rose_later (D.faults c.args.disk.now) (D.faults c.open.new.disk) (D.faults c.compare.new.disk) (D.faults c.compare.new.disk) c.open.ensures.later (omega arith))
-    c.in_err-compare-in-Found.field-0.0 c.in_err-compare-in-Found.ensures.cause)
+    (why_of c.in_err-compare-in-Found.field-0.0) c.in_err-compare-in-Found.ensures.refused)
+
+pub returns-in-Blank-clause-refused : goal.returns-in-Blank-clause-refused
+returns-in-Blank-clause-refused g c =
+    let D = g.D.Disk in
+    let I = g.I.Inputs in
+    let x : Given = record { told = I.told c.args.inputs.now; tells = D.tells; before = D.seen c.args.disk.now } in
+    let blank = λ (tells : IsTrue D.tells). sym (c.in_ok-open.ensures.stays tells).same ∙ subst (IsOpened (D.seen c.open.new.disk)) c.in-Blank.is (c.in_ok-open.ensures.opened tells) in
+    let rose = rises_in I D c.args.inputs.now c.import.new.inputs c.args.disk.now c.import.new.disk in
+    let dr : Type 0 = Rose (D.faults c.open.new.disk) (D.faults c.import.new.disk) in
+    by_reason why_of (import_causes c.args.grammar.now (x.told c.args.files.now.edges.now) (IsTrue D.tells) (rose.reads c.args.files.now.edges.now) dr) c.import.result _
+    (λ e h.
+    import_refused x c.args.files.now.edges.now c.args.files.now.grammar.now c.args.grammar.now c.requires blank rose dr
+    (rose_later (D.faults c.args.disk.now) (D.faults c.open.new.disk) (D.faults c.import.new.disk) (D.faults c.import.new.disk) c.open.ensures.later (omega arith)) (why_of e) h)
+    c.import.ensures.cause
 
 pub returns-in-Blank-clause-ready : goal.returns-in-Blank-clause-ready
 returns-in-Blank-clause-ready g c =

@@ -1,14 +1,27 @@
 use Rattle.std.proofs.Common.{ℕ, ◌≤◌, List, Option, subst, arith}
-use Rattle.faults.specs.Counts.{Rose}
 use Rattle.io_edge.proofs.DeviceLemmas.{keeps_then}
+use Rattle.store_fault.specs.Faults.{why_of}
 use Rattle.graspan_top.specs.Faults.{of_store}
 use Rattle.graspan_top.specs.Given.{Given}
-use Rattle.graspan_top.proofs.ExplainLemmas.{if_err, not_done, rose_later, told_later}
-use Rattle.graspan_top.specs.Run.{StopsLeave}
+use Rattle.graspan_top.specs.Refusals.{rises_in}
+use Rattle.graspan_top.specs.Run.{StopsLeave, ready_stages}
+use Rattle.graspan_top.proofs.ExplainLemmas.{grammar_refused, if_err, rose_later, told_later}
+use Rattle.graspan_top.proofs.StageLemmas.{Grow, store_refuses}
 use Rattle.graspan_top.proofs.ready_store.ready_store.Goals as goal
 
-pub returns-in_err-found_or_made-clause-cause : goal.returns-in_err-found_or_made-clause-cause
-returns-in_err-found_or_made-clause-cause g c =
+pub returns-in_err-grammar-clause-refused : goal.returns-in_err-grammar-clause-refused
+returns-in_err-grammar-clause-refused g c =
+    let D = g.D.Disk in
+    let I = g.I.Inputs in
+    let x : Given = record { told = I.told c.args.inputs.now; tells = D.tells; before = D.seen c.args.disk.now } in
+    let edges : List ℕ = c.args.files.now.edges.now in
+    let grammar : List ℕ = c.args.files.now.grammar.now in
+    let rose = rises_in I D c.args.inputs.now c.read_grammar_file.new.inputs c.args.disk.now c.args.disk.now in
+    if_err c.from_residual.result c.in_err-grammar.field-0.0 _ c.from_residual.ensures.1
+    (grammar_refused x edges grammar rose c.in_err-grammar.field-0.0 c.in_err-grammar.ensures.refused)
+
+pub returns-in_err-found_or_made-clause-refused : goal.returns-in_err-found_or_made-clause-refused
+returns-in_err-found_or_made-clause-refused g c =
     let D = g.D.Disk in
     let I = g.I.Inputs in
     let x : Given = record { told = I.told c.args.inputs.now; tells = D.tells; before = D.seen c.args.disk.now } in
@@ -16,19 +29,17 @@ returns-in_err-found_or_made-clause-cause g c =
     let grammar : List ℕ = c.args.files.now.grammar.now in
     let was = c.read_grammar_file.new.inputs in
     let now = c.found_or_made.new.inputs in
-    let others = c.read_grammar_file.ensures.keeps.others in
-    if_err c.from_residual-in_err-found_or_made.result (of_store c.in_err-found_or_made.field-0.0) _ c.from_residual-in_err-found_or_made.ensures.1
-    (told_later x (I.told was) edges grammar
-    (Rose (I.faults was edges) (I.faults now edges)) (Rose (I.faults was grammar) (I.faults now grammar)) (Rose (D.faults c.args.disk.now) (D.faults c.found_or_made.new.disk))
-    (Rose (I.faults c.args.inputs.now edges) (I.faults now edges)) (Rose (I.faults c.args.inputs.now grammar) (I.faults now grammar)) (Rose (D.faults c.args.disk.now) (D.faults c.found_or_made.new.disk))
-    c.read_grammar_file.ensures.keeps.kept
-    (rose_later (I.faults c.args.inputs.now edges) (I.faults was edges) (I.faults now edges) (I.faults now edges) (others edges) (omega arith))
-    (rose_later (I.faults c.args.inputs.now grammar) (I.faults was grammar) (I.faults now grammar) (I.faults now grammar) (others grammar) (omega arith))
-    (λ h. h) (of_store c.in_err-found_or_made.field-0.0)
-    c.in_err-found_or_made.ensures.cause)
-
-pub returns-in_err-found_or_made-clause-fails : goal.returns-in_err-found_or_made-clause-fails
-returns-in_err-found_or_made-clause-fails g c = if_err c.from_residual-in_err-found_or_made.result (of_store c.in_err-found_or_made.field-0.0) _ c.from_residual-in_err-found_or_made.ensures.1 (not_done c.in_err-found_or_made.field-0.0)
+    let part = rises_in I D was now c.args.disk.now c.found_or_made.new.disk in
+    let whole = rises_in I D c.args.inputs.now now c.args.disk.now c.found_or_made.new.disk in
+    let grow : Grow part whole =
+    record {
+      reads = λ name. rose_later (I.faults c.args.inputs.now name) (I.faults was name) (I.faults now name) (I.faults now name) (c.read_grammar_file.ensures.keeps.others name) (omega arith);
+      disk = λ h. h;
+      writes = λ h. h;
+    } in
+    let f = c.in_err-found_or_made.field-0.0 in
+    if_err c.from_residual-in_err-found_or_made.result (of_store f) _ c.from_residual-in_err-found_or_made.ensures.1
+    (store_refuses (ready_stages x edges grammar whole) f (told_later x edges grammar (I.told was) part whole c.read_grammar_file.ensures.keeps.kept grow (why_of f) c.in_err-found_or_made.ensures.refused))
 
 pub returns-clause-stops : goal.returns-clause-stops
 returns-clause-stops g c =

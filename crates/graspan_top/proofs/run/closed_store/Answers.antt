@@ -1,28 +1,40 @@
 use Rattle.std.proofs.Common.{ℕ, ◌≤◌, List, arith}
 use Rattle.faults.specs.Counts.{Rose}
+use Rattle.store_fault.specs.Faults.{why_of}
 use Rattle.graspan_top.specs.Faults.{of_store}
 use Rattle.graspan_top.specs.Given.{Given}
-use Rattle.graspan_top.proofs.ExplainLemmas.{close_handed, if_err, not_done, rose_later}
+use Rattle.graspan_top.specs.Refusals.{rises_in}
+use Rattle.graspan_top.specs.Run.{closed_stages}
+use Rattle.graspan_top.proofs.StageLemmas.{store_refuses}
+use Rattle.graspan_top.proofs.ExplainLemmas.{close_refused, if_err, ready_refused, rose_later}
 use Rattle.graspan_top.proofs.ReadyLemmas.{closed_ready}
 use Rattle.graspan_top.proofs.StopLemmas.{stops_closing}
 use Rattle.graspan_top.proofs.run.closed_store.Goals as goal
 
-pub returns-in_err-run_to_end-clause-cause : goal.returns-in_err-run_to_end-clause-cause
-returns-in_err-run_to_end-clause-cause g c =
+pub returns-in_err-store-clause-refused : goal.returns-in_err-store-clause-refused
+returns-in_err-store-clause-refused g c =
     let D = g.D.Disk in
-    let I = g.I.Inputs in
-    let x : Given = record { told = I.told c.args.inputs.now; tells = D.tells; before = D.seen c.args.disk.now } in
+    let x : Given = record { told = g.I.Inputs.told c.args.inputs.now; tells = D.tells; before = D.seen c.args.disk.now } in
+    let rose = rises_in g.I.Inputs D c.args.inputs.now c.ready_store.new.inputs c.args.disk.now c.ready_store.new.disk in
+    if_err c.from_residual.result c.in_err-store.field-0.0 _ c.from_residual.ensures.1
+    (ready_refused x c.args.files.now.edges.now c.args.files.now.grammar.now (D.seen c.ready_store.new.disk) rose c.in_err-store.field-0.0 c.in_err-store.ensures.refused)
+
+pub returns-in_err-run_to_end-clause-refused : goal.returns-in_err-run_to_end-clause-refused
+returns-in_err-run_to_end-clause-refused g c =
+    let D = g.D.Disk in
+    let x : Given = record { told = g.I.Inputs.told c.args.inputs.now; tells = D.tells; before = D.seen c.args.disk.now } in
     let edges : List ℕ = c.args.files.now.edges.now in
     let grammar : List ℕ = c.args.files.now.grammar.now in
     let mid = c.ready_store.new.disk in
     let last = c.run_to_end.new.disk in
-    if_err c.from_residual-in_err-run_to_end.result (of_store c.in_err-run_to_end.field-0.0) _ c.from_residual-in_err-run_to_end.ensures.1
-    (λ show after.
-    close_handed x edges grammar c.in_ok-store.ensures.ready.accepts show after
-    (Rose (I.faults c.args.inputs.now edges) (I.faults c.ready_store.new.inputs edges)) (Rose (I.faults c.args.inputs.now grammar) (I.faults c.ready_store.new.inputs grammar))
-    (Rose (D.faults mid) (D.faults last)) (Rose (D.faults c.args.disk.now) (D.faults last)) ⊥ (D.seen mid) c.in_ok-store.store c.in_ok-store.ensures.begins c.in_ok-store.ensures.ready.opened
+    let rose = rises_in g.I.Inputs D c.args.inputs.now c.ready_store.new.inputs c.args.disk.now last in
+    let ready = c.in_ok-store.ensures.ready in
+    let f = c.in_err-run_to_end.field-0.0 in
+    if_err c.from_residual-in_err-run_to_end.result (of_store f) _ c.from_residual-in_err-run_to_end.ensures.1
+    (store_refuses (closed_stages x edges grammar (D.seen last) rose) f
+    (close_refused x edges grammar ready.accepts (D.seen last) (D.seen mid) c.in_ok-store.store c.in_ok-store.ensures.begins ready.opened rose (Rose (D.faults mid) (D.faults last))
     (rose_later (D.faults c.args.disk.now) (D.faults mid) (D.faults last) (D.faults last) c.ready_store.ensures.later (omega arith))
-    c.in_err-run_to_end.field-0.0 c.in_err-run_to_end.ensures.cause)
+    (why_of f) c.in_err-run_to_end.ensures.cause))
 
 pub returns-clause-ready : goal.returns-clause-ready
 returns-clause-ready g c =
@@ -30,9 +42,6 @@ returns-clause-ready g c =
     let x : Given = record { told = g.I.Inputs.told c.args.inputs.now; tells = D.tells; before = D.seen c.args.disk.now } in
     closed_ready x c.args.files.now.edges.now c.args.files.now.grammar.now (D.seen c.ready_store.new.disk) (D.may_leave c.ready_store.new.disk) c.in_ok-store.store c.in_ok-store.ensures.ready
     (D.seen c.run_to_end.new.disk) (D.may_leave c.run_to_end.new.disk) c.in_ok-run_to_end.field-0 (g.met.D.Disk.honest c.run_to_end.new.disk) c.in_ok-run_to_end.ensures.closed
-
-pub returns-in_err-run_to_end-clause-fails : goal.returns-in_err-run_to_end-clause-fails
-returns-in_err-run_to_end-clause-fails g c = if_err c.from_residual-in_err-run_to_end.result (of_store c.in_err-run_to_end.field-0.0) _ c.from_residual-in_err-run_to_end.ensures.1 (not_done c.in_err-run_to_end.field-0.0)
 
 pub returns-in_err-run_to_end-clause-stops : goal.returns-in_err-run_to_end-clause-stops
 returns-in_err-run_to_end-clause-stops g c =

@@ -7,9 +7,11 @@ use Rattle.store.specs.Import.{texts_of}
 use Rattle.graspan_top.specs.declared.status.Status.TheVariants.{Done}
 use Rattle.graspan_top.specs.Given.{Given}
 use Rattle.graspan_top.specs.Printed.{Begins, IsNothingOr, PrintsFirst, status_of}
-use Rattle.graspan_top.specs.Run.{IsRunBegun, IsRunText, RunExplains}
+use Rattle.graspan_top.specs.Refusals.{Explained, rises_in, rises_of}
+use Rattle.graspan_top.specs.Run.{IsRunBegun, IsRunText, closed_stages, run_stages}
 use Rattle.graspan_top.proofs.LookLemmas.{status_at}
-use Rattle.graspan_top.proofs.ExplainLemmas.{explains_later, rose_later, show_explains}
+use Rattle.graspan_top.proofs.ExplainLemmas.{closed_refused, rose_later, show_explained}
+use Rattle.graspan_top.proofs.StageLemmas.{Grow, refused_not_done}
 use Rattle.graspan_top.proofs.PrintLemmas.{nothing_first}
 use Rattle.graspan_top.proofs.ReadyLemmas.{exact_end}
 use Rattle.graspan_top.proofs.TextLemmas.{nothing_begun}
@@ -24,19 +26,22 @@ returns-in_err-store-clause-explained g c =
     let edges : List ℕ = c.args.files.now.edges.now in
     let grammar : List ℕ = c.args.files.now.grammar.now in
     let show : Option (List ℕ) = option_map (λ l. l.now) c.args.show in
-    let er : Type 0 = Rose (I.faults c.args.inputs.now edges) (I.faults c.closed_store.new.inputs edges) in
-    let gr : Type 0 = Rose (I.faults c.args.inputs.now grammar) (I.faults c.closed_store.new.inputs grammar) in
-    let dr : Type 0 = Rose (D.faults c.args.disk.now) (D.faults c.closed_store.new.disk) in
-    let wr : Type 0 = Rose (g.O.Sink.faults c.args.out.now) (g.O.Sink.faults c.args.out.now) in
-    status_at (λ s. RunExplains x edges grammar show (D.seen c.closed_store.new.disk) er gr dr wr s) c.from_residual.result c.in_err-store.field-0.0 c.from_residual.ensures.1
-    (explains_later x edges grammar show (D.seen c.closed_store.new.disk) er gr dr ⊥ er gr dr wr (λ h. h) (λ h. h) (λ h. h) (λ h. absurd h) c.in_err-store.field-0.0 (c.in_err-store.ensures.cause show (D.seen c.closed_store.new.disk)))
+    let now = c.closed_store.new in
+    let part = rises_in I D c.args.inputs.now now.inputs c.args.disk.now now.disk in
+    let whole = rises_of I D g.O.Sink c.args.inputs.now now.inputs c.args.disk.now now.disk c.args.out.now c.args.out.now in
+    let grow : Grow part whole = record { reads = λ name h. h; disk = λ h. h; writes = λ h. absurd h } in
+    status_at (λ s. Explained (run_stages x edges grammar show (D.seen now.disk) whole) s) c.from_residual.result c.in_err-store.field-0.0 c.from_residual.ensures.1
+    (closed_refused x edges grammar show (D.seen now.disk) part whole grow c.in_err-store.field-0.0 c.in_err-store.ensures.refused)
 
 pub returns-in_err-store-clause-printed : goal.returns-in_err-store-clause-printed
 returns-in_err-store-clause-printed g c =
     let D = g.D.Disk in
     let show : Option (List ℕ) = option_map (λ l. l.now) c.args.show in
+    let x : Given = record { told = g.I.Inputs.told c.args.inputs.now; tells = D.tells; before = D.seen c.args.disk.now } in
+    let now = c.closed_store.new in
+    let stages = closed_stages x c.args.files.now.edges.now c.args.files.now.grammar.now (D.seen now.disk) (rises_in g.I.Inputs D c.args.inputs.now now.inputs c.args.disk.now now.disk) in
     status_at (λ s. PrintsFirst D.tells (IsRunText (D.seen c.closed_store.new.disk) show) (g.O.Sink.told c.args.out.now) (g.O.Sink.told c.args.out.now) s) c.from_residual.result c.in_err-store.field-0.0 c.from_residual.ensures.1
-    (nothing_first D.tells (IsRunText (D.seen c.closed_store.new.disk) show) (g.O.Sink.told c.args.out.now) c.in_err-store.field-0.0 c.in_err-store.ensures.fails)
+    (nothing_first D.tells (IsRunText (D.seen c.closed_store.new.disk) show) (g.O.Sink.told c.args.out.now) c.in_err-store.field-0.0 (refused_not_done stages c.in_err-store.field-0.0 c.in_err-store.ensures.refused))
 
 pub returns-clause-explained : goal.returns-clause-explained
 returns-clause-explained g c =
@@ -49,16 +54,13 @@ returns-clause-explained g c =
     let show : Option (List ℕ) = option_map (λ l. l.now) c.args.show in
     let mid = c.closed_store.new.disk in
     let last = c.show_run.new.disk in
-    let er : Type 0 = Rose (I.faults c.args.inputs.now edges) (I.faults c.closed_store.new.inputs edges) in
-    let gr : Type 0 = Rose (I.faults c.args.inputs.now grammar) (I.faults c.closed_store.new.inputs grammar) in
-    let dr : Type 0 = Rose (D.faults mid) (D.faults last) in
-    let dr' : Type 0 = Rose (D.faults c.args.disk.now) (D.faults last) in
-    let wr : Type 0 = Rose (O.faults c.args.out.now) (O.faults c.show_run.new.out) in
+    let rose = rises_of I D O c.args.inputs.now c.closed_store.new.inputs c.args.disk.now last c.args.out.now c.show_run.new.out in
     let ready = c.in_ok-store.ensures.ready in
-    subst (λ (k : Contents). RunExplains x edges grammar show k er gr dr' wr (status_of c.show_run.result)) (sym c.show_run.ensures.looks.same_seen)
-    (explains_later x edges grammar show (D.seen mid) er gr dr wr er gr dr' wr (λ h. h) (λ h. h)
-    (rose_later (D.faults c.args.disk.now) (D.faults mid) (D.faults last) (D.faults last) c.closed_store.ensures.later (omega arith)) (λ h. h) (status_of c.show_run.result)
-    (show_explains x edges grammar show (D.seen mid) er gr dr wr c.in_ok-store.store ready.accepts c.in_ok-store.ensures.done ready.opened (λ tells. (ready.opened tells).held.current) c.show_run.result c.show_run.ensures.explained))
+    subst (λ (k : Contents). Explained (run_stages x edges grammar show k rose) (status_of c.show_run.result)) (sym c.show_run.ensures.looks.same_seen)
+    (show_explained x edges grammar ready.accepts (D.seen mid) c.in_ok-store.store ready.opened c.in_ok-store.ensures.done rose show
+    (Rose (D.faults mid) (D.faults last)) (Rose (O.faults c.args.out.now) (O.faults c.show_run.new.out))
+    (rose_later (D.faults c.args.disk.now) (D.faults mid) (D.faults last) (D.faults last) c.closed_store.ensures.later (omega arith)) (λ h. h)
+    (status_of c.show_run.result) c.show_run.ensures.explained)
 
 pub returns-clause-exact : goal.returns-clause-exact
 returns-clause-exact g c =
@@ -76,8 +78,12 @@ returns-clause-exact g c =
 
 pub returns-in_err-store-clause-exact : goal.returns-in_err-store-clause-exact
 returns-in_err-store-clause-exact g c =
+    let D = g.D.Disk in
+    let x : Given = record { told = g.I.Inputs.told c.args.inputs.now; tells = D.tells; before = D.seen c.args.disk.now } in
+    let now = c.closed_store.new in
+    let stages = closed_stages x c.args.files.now.edges.now c.args.files.now.grammar.now (D.seen now.disk) (rises_in g.I.Inputs D c.args.inputs.now now.inputs c.args.disk.now now.disk) in
     λ tells gt et tg te left done.
-    absurd (status_at (λ s. s ≡ Done → ⊥) c.from_residual.result c.in_err-store.field-0.0 c.from_residual.ensures.1 c.in_err-store.ensures.fails done)
+    absurd (status_at (λ s. s ≡ Done → ⊥) c.from_residual.result c.in_err-store.field-0.0 c.from_residual.ensures.1 (refused_not_done stages c.in_err-store.field-0.0 c.in_err-store.ensures.refused) done)
 
 pub returns-in_err-store-clause-begun : goal.returns-in_err-store-clause-begun
 returns-in_err-store-clause-begun g c =
