@@ -5,7 +5,7 @@ use Rattle.std.proofs.Math.Nat.{mul-le-mul_right}
 use Rattle.std.proofs.lemmas.Bool.{cases_lt}
 use Rattle.std.proofs.lemmas.Bool.Decides.{nat_tests}
 use Rattle.graph_words.specs.declared.types.Born.{Born}
-use Rattle.closing_machine.specs.State.{IsCut, place, target}
+use Rattle.closing_machine.specs.State.{EndsCut, place, target}
 use Rattle.closing_machine.specs.Machine.{high, low}
 use Rattle.closing_machine.specs.Measure.{sum_below}
 use Rattle.closing_machine.proofs.Boxes.{passing_fit}
@@ -16,7 +16,7 @@ use Rattle.dest_map.specs.Table.{counts_of}
 use Rattle.manifest_codec.specs.declared.types.PartEntry.{PartEntry}
 use Rattle.manifest_codec.specs.declared.types.Manifest.{Manifest}
 use Rattle.manifest_codec.specs.Rules.{widths}
-use Rattle.manifest_codec.specs.Spelling.{Cover, Fits, width}
+use Rattle.manifest_codec.specs.Spelling.{Cover, FitsManifest, width}
 use Rattle.store_law.specs.Listed.{ends_of, expect_of, part_of}
 use Rattle.store_law.proofs.Intervals.{cut_from_cover}
 use Rattle.open_store.specs.PartRead.{count_into}
@@ -44,10 +44,10 @@ widths_cover top from (p ∷ ps) cover =
     let b : from < p.hi = cover.0 in
     omega (arith, r, s, b)
 
-pub widths_sum : (m : Manifest) → Fits m → sum_below (width m) (length m.parts) ≡ m.vertices
+pub widths_sum : (m : Manifest) → FitsManifest m → sum_below (width m) (length m.parts) ≡ m.vertices
 widths_sum m fits = let c = widths_cover m.vertices 0 m.parts fits.cover in omega (arith, c)
 
-place_lies : (ends : List ℕ) (from to v : ℕ) → IsCut from ends to → from ≤ v → v < to → (get_or (from ∷ ends) (place ends v) 0 ≤ v) × (v < get_or ends (place ends v) 0)
+place_lies : (ends : List ℕ) (from to v : ℕ) → EndsCut from ends to → from ≤ v → v < to → (get_or (from ∷ ends) (place ends v) 0 ≤ v) × (v < get_or ends (place ends v) 0)
 place_lies [] from to v is le lt = absurd (let e : from ≡ to = is in omega arith)
 place_lies (e ∷ es) from to v is le lt = either (λ h. rw (test h) (le, h)) (λ h. rw (fails h) (place_lies es e to v is.1 h lt)) (cases_lt v e)
   where
@@ -66,8 +66,8 @@ same_number a b e = grind (arith, nat_tests)
 pub label_fits : (m : Manifest) (fresh a : ℕ) (b : Born) → length m.labels ≤ 1000 → fresh ≤ 62000 → FitsEdge (expect_of m fresh a) b → b.edge.label.0 < 63000
 label_fits m fresh a b named few f = elim f.known [ inl low ↦ omega (arith, low, named) | inr high ↦ omega (arith, high.1, few) ]
 
-module _ (m : Manifest) (fits : Fits m) where
-  pub cut : IsCut 0 (ends_of m) m.vertices
+module _ (m : Manifest) (fits : FitsManifest m) where
+  pub cut : EndsCut 0 (ends_of m) m.vertices
   cut = cut_from_cover m.vertices 0 m.parts fits.cover
 
   pub ends_into : (b : Born) → b.edge.dst.0 < m.vertices → target (ends_of m) b < length m.parts

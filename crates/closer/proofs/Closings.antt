@@ -15,17 +15,17 @@ use Rattle.dest_map.specs.Table.{counts_of}
 use Rattle.pair_sched.specs.Marks.{joined_of, newest_of}
 use Rattle.pair_sched.specs.Pick.{IsClean}
 use Rattle.manifest_codec.specs.declared.types.Manifest.{Manifest}
-use Rattle.manifest_codec.specs.Spelling.{Fits}
+use Rattle.manifest_codec.specs.Spelling.{FitsManifest}
 use Rattle.manifest_switch.specs.Slots.{other}
 use Rattle.manifest_switch.specs.Steps.{IsSwitched}
-use Rattle.store_law.specs.Left.{IsDone}
+use Rattle.store_law.specs.Left.{HasNoWork}
 use Rattle.store_law.specs.Listed.{ends_of}
 use Rattle.store_fault.specs.declared.fault.StoreFault.{StoreFault}
 use Rattle.store_fault.specs.declared.fault.StoreFault.TheVariants.{BadStore, DiskFault, InputFault, NoMemory, OtherInput, ReadFault}
 use Rattle.open_store.specs.Store.{IsHeldAlone, IsOpenStore, OpenStore}
 use Rattle.closer.specs.Continuation.{Continues, HasWork}
-use Rattle.closer.specs.Answers.{BlamesPicked, IsClosed, IsStepped}
-use Rattle.closer.specs.NextManifest.{BlamesPair, IsNext, IsOrderedPair}
+use Rattle.closer.specs.Answers.{BlamesPicked, IsClosedStore, IsStepped}
+use Rattle.closer.specs.NextManifest.{BlamesPair, IsNextManifest, IsOrderedPair}
 use Rattle.closer.proofs.Ending.{outcome}
 use Rattle.closer.proofs.Images.{continues_beside}
 use Rattle.closer.proofs.LawLemmas.{continues_further}
@@ -49,15 +49,15 @@ pub blamed_turned : (s : OpenStore) (tells : Bool) (c : Contents) (i j low high 
 blamed_turned s tells c i j low high f p k ordered b = record { partition = b.partition; among = among_turned i j low high b.partition ordered ∙ b.among; file_is = b.file_is; refused = b.refused }
 
 -- the pick of a manifest that is handed out
-pub picked : (r m : Manifest) (i j : ℕ) → r ≡ m → Fits m → IsPick (counts_of r.map) (joined_of r.marks) (newest_of r.marks) r.map.0 i j → IsPick (counts_of m.map) (joined_of m.marks) (newest_of m.marks) (length m.parts) i j
+pub picked : (r m : Manifest) (i j : ℕ) → r ≡ m → FitsManifest m → IsPick (counts_of r.map) (joined_of r.marks) (newest_of r.marks) r.map.0 i j → IsPick (counts_of m.map) (joined_of m.marks) (newest_of m.marks) (length m.parts) i j
 picked r m i j same fits is =
     subst (λ (n : ℕ). IsPick (counts_of m.map) (joined_of m.marks) (newest_of m.marks) n i j) fits.map.size (subst (λ (x : Manifest). IsPick (counts_of x.map) (joined_of x.marks) (newest_of x.marks) x.map.0 i j) same is)
 
-pub clean : (r m : Manifest) → r ≡ m → Fits m → IsClean (counts_of r.map) (joined_of r.marks) (newest_of r.marks) r.map.0 → IsDone m
+pub clean : (r m : Manifest) → r ≡ m → FitsManifest m → IsClean (counts_of r.map) (joined_of r.marks) (newest_of r.marks) r.map.0 → HasNoWork m
 clean r m same fits is =
     subst (λ (n : ℕ). IsClean (counts_of m.map) (joined_of m.marks) (newest_of m.marks) n) fits.map.size (subst (λ (x : Manifest). IsClean (counts_of x.map) (joined_of x.marks) (newest_of x.marks) x.map.0) same is)
 
-pub same_size : (r m : Manifest) → r ≡ m → Fits m → r.map.0 ≡ r.marks.0
+pub same_size : (r m : Manifest) → r ≡ m → FitsManifest m → r.map.0 ≡ r.marks.0
 same_size r m same fits = ap (λ (x : Manifest). x.map.0) same ∙ fits.map.size ∙ sym fits.marks.size ∙ sym (ap (λ (x : Manifest). x.marks.0) same)
 
 pub blamed_pick : (s : OpenStore) (tells : Bool) (c : Contents) (i j f p : ℕ) (k : FormKind) → IsPick (counts_of s.manifest.map) (joined_of s.manifest.marks) (newest_of s.manifest.marks) (length s.manifest.parts) i j → BlamesPair s tells c i j f p k → BlamesPicked s tells c f p k
@@ -66,7 +66,7 @@ blamed_pick s tells c i j f p k pick b = record { i = i; j = j; pick = pick; par
 pub labels_begin : (m next : Manifest) → next.labels ≡ m.labels → take (length m.labels) next.labels ≡ m.labels
 labels_begin m next same = ap (λ (l : List (List ℕ)). take (length m.labels) l) same ∙ take_all (length m.labels) m.labels (omega arith)
 
-module _ (s : OpenStore) (is : IsOpenStore s) (tells : Bool) (old mid : Contents) (i j : ℕ) (next : Manifest) (x : IsNext s tells old mid i j next) (left : IsTrue tells → All (λ r. r.left.0 < length s.manifest.labels) s.rules) (pick : IsPick (counts_of s.manifest.map) (joined_of s.manifest.marks) (newest_of s.manifest.marks) (length s.manifest.parts) i j) where
+module _ (s : OpenStore) (is : IsOpenStore s) (tells : Bool) (old mid : Contents) (i j : ℕ) (next : Manifest) (x : IsNextManifest s tells old mid i j next) (left : IsTrue tells → All (λ r. r.left.0 < length s.manifest.labels) s.rules) (pick : IsPick (counts_of s.manifest.map) (joined_of s.manifest.marks) (newest_of s.manifest.marks) (length s.manifest.parts) i j) where
   pub goes_on : IsTrue tells → Continues (normal_form s.rules) 1 old s.manifest mid next
   goes_on tell = (outcome s tells old mid i j next is x).goes_on tell (left tell) pick
 
@@ -84,11 +84,11 @@ module _ (s : OpenStore) (is : IsOpenStore s) (tells : Bool) (old mid : Contents
       })
 
 -- the last step finds no work
-pub closed_here : {D : Type 0} (seen : D → Contents) (images : D → Contents → Type 0) (tells : Bool) (s current last : OpenStore) (old now new : D) → last ≡ current → IsDone current.manifest → new ≡ now → current.rules ≡ s.rules → (IsTrue tells → (k : ℕ) × Continues (normal_form s.rules) k (seen old) s.manifest (seen now) current.manifest)
-    → ((c : Contents) → images now c → IsHeldAlone current c) → (LeavesJust (seen old) (images old) → LeavesJust (seen now) (images now)) → IsClosed tells (seen old) (images old) s (seen new) (images new) last
+pub closed_here : {D : Type 0} (seen : D → Contents) (images : D → Contents → Type 0) (tells : Bool) (s current last : OpenStore) (old now new : D) → last ≡ current → HasNoWork current.manifest → new ≡ now → current.rules ≡ s.rules → (IsTrue tells → (k : ℕ) × Continues (normal_form s.rules) k (seen old) s.manifest (seen now) current.manifest)
+    → ((c : Contents) → images now c → IsHeldAlone current c) → (LeavesJust (seen old) (images old) → LeavesJust (seen now) (images now)) → IsClosedStore tells (seen old) (images old) s (seen new) (images new) last
 closed_here {D} seen images tells s current last old now new same done still rules on held synced =
-    subst (λ (x : D). IsClosed tells (seen old) (images old) s (seen x) (images x) last) (sym still)
-    (subst (λ (o : OpenStore). IsClosed tells (seen old) (images old) s (seen now) (images now) o) (sym same) (record { done = done; continues = on; rules_are = rules; held = held; synced = synced }))
+    subst (λ (x : D). IsClosedStore tells (seen old) (images old) s (seen x) (images x) last) (sym still)
+    (subst (λ (o : OpenStore). IsClosedStore tells (seen old) (images old) s (seen now) (images now) o) (sym same) (record { done = done; continues = on; rules_are = rules; held = held; synced = synced }))
 
 -- steps behind others, with one more
 pub one_more : (s t u : OpenStore) (tells : Bool) (c d e : Contents) (images : Contents → Type 0) → t.rules ≡ s.rules → (IsTrue tells → (k : ℕ) × Continues (normal_form s.rules) k c s.manifest d t.manifest) → IsStepped tells d t e images u → IsTrue tells → (k : ℕ) × Continues (normal_form s.rules) k c s.manifest e u.manifest
@@ -97,7 +97,7 @@ one_more s t u tells c d e images same on step tell =
     (o.0 + 1, continues_further (normal_form s.rules) o.0 1 c d e s.manifest t.manifest u.manifest o.1 (subst (λ (r : List Rule). Continues (normal_form r) 1 d t.manifest e u.manifest) same (step.continues tell)))
 
 -- a store that has no work left makes no step
-pub no_step_there : (s t u : OpenStore) (tells : Bool) (d e : Contents) (images : Contents → Type 0) → IsDone s.manifest → t ≡ s → IsStepped tells d t e images u → ⊥
+pub no_step_there : (s t u : OpenStore) (tells : Bool) (d e : Contents) (images : Contents → Type 0) → HasNoWork s.manifest → t ≡ s → IsStepped tells d t e images u → ⊥
 no_step_there s t u tells d e images done same step =
     let w = subst (λ (o : OpenStore). HasWork o.manifest) same step.work in
     done w.i w.j w.first_below w.second_below w.dirty

@@ -8,11 +8,11 @@ use Rattle.partition_file.specs.Spelling.{Part}
 use Rattle.dest_map.specs.Table.{counts_of}
 use Rattle.pair_sched.specs.Marks.{joined_of, newest_of}
 use Rattle.manifest_codec.specs.declared.types.Manifest.{Manifest}
-use Rattle.manifest_codec.specs.Spelling.{Fits}
+use Rattle.manifest_codec.specs.Spelling.{FitsManifest}
 use Rattle.row_table.specs.Loaded.{span_of}
 use Rattle.open_store.specs.Store.{IsOpenStore, OpenStore}
 use Rattle.closer.specs.Continuation.{Continues, work_of}
-use Rattle.closer.specs.NextManifest.{ArePairIn, ArePut, AreRun, AreSpelled, IsLeastMarkIn, IsMarked, IsNext, IsOrderedPair}
+use Rattle.closer.specs.NextManifest.{ArePairIn, ArePut, AreRun, AreSpelled, IsLeastMarkIn, IsMarked, IsNextManifest, IsOrderedPair}
 use Rattle.closer.proofs.Flat.{each_one, each_two, reached_one, reached_two, still_one, still_two, turns_one, turns_two}
 use Rattle.closer.proofs.Nexting.{ends_start, part_same, some_none, some_same, well_start}
 use Rattle.closer.proofs.StepLemmas.{goes_on_one, goes_on_two}
@@ -20,7 +20,7 @@ use Rattle.closer.proofs.Turning.{Turns, next_fits, work_less}
 
 pub record Outcome (s : OpenStore) (tells : Bool) (old new : Contents) (i j k : ℕ) (next : Manifest) : Type 0 where
   pub turns : Turns s.manifest next i j k
-  pub fits : Fits next
+  pub fits : FitsManifest next
   pub less : i < length s.manifest.parts → j < length s.manifest.parts → IsDirtyBy (counts_of s.manifest.map) (joined_of s.manifest.marks) (newest_of s.manifest.marks) i j → work_of next < work_of s.manifest
   pub goes_on : IsTrue tells → All (λ r. r.left.0 < length s.manifest.labels) s.rules → IsPick (counts_of s.manifest.map) (joined_of s.manifest.marks) (newest_of s.manifest.marks) (length s.manifest.parts) i j → Continues (normal_form s.rules) 1 old s.manifest new next
 
@@ -69,5 +69,5 @@ module _ (s : OpenStore) (is : IsOpenStore s) (tells : Bool) (old new : Contents
   by_parts p None p' (Some q') pair spelled run put = absurd (some_none (span_of q') run.high_is)
   by_parts p (Some q) p' None pair spelled run put = absurd (some_none (span_of q) (sym run.high_is))
 
-pub outcome : (s : OpenStore) (tells : Bool) (old new : Contents) (i j : ℕ) (next : Manifest) → IsOpenStore s → (x : IsNext s tells old new i j next) → Outcome s tells old new i j x.k next
+pub outcome : (s : OpenStore) (tells : Bool) (old new : Contents) (i j : ℕ) (next : Manifest) → IsOpenStore s → (x : IsNextManifest s tells old new i j next) → Outcome s tells old new i j x.k next
 outcome s tells old new i j next is x = by_parts s is tells old new i j x.low x.high x.k x.since x.least x.in_order x.start next x.marked x.p x.q x.p' x.q' x.loaded x.spelled x.run x.put

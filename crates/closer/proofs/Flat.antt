@@ -15,7 +15,7 @@ use Rattle.partition_file.specs.Spelling.{FitsEdge, IsPart, Part}
 use Rattle.dest_map.specs.Table.{counts_of}
 use Rattle.pair_sched.specs.Marks.{newest_of}
 use Rattle.manifest_codec.specs.declared.types.Manifest.{Manifest}
-use Rattle.manifest_codec.specs.Spelling.{Fits}
+use Rattle.manifest_codec.specs.Spelling.{FitsManifest}
 use Rattle.store_law.specs.Listed.{ends_of, part_of}
 use Rattle.superstep.specs.Room.{IsInFormat}
 use Rattle.open_store.specs.PartRead.{count_into}
@@ -58,7 +58,7 @@ took m start next i j k round a edges t o =
       joined = λ x y. o.joined x y ∙ t.joined x y;
     }
 
-module _ (s : OpenStore) (fits : Fits s.manifest) (i j k : ℕ) (start : Manifest) (marked : IsMarked s.manifest i j k start) (turned : Turns s.manifest start i j k) where
+module _ (s : OpenStore) (fits : FitsManifest s.manifest) (i j k : ℕ) (start : Manifest) (marked : IsMarked s.manifest i j k start) (turned : Turns s.manifest start i j k) where
   -- the edges after the rounds
   module _ (edges rows : List Born) (since last : ℕ) (r : Rounds (normal_form s.rules) edges since s.manifest.round k rows last) (old : (b : Born) → Contains edges b → (b.edge.dst.0 < s.manifest.vertices) × (b.birth < s.manifest.round)) (format : All IsInFormat rows) where
     new_in : (next : Manifest) (a : ℕ) (p' : Part) → next.round ≡ s.manifest.round + k → p' ≡ part_of s.manifest a p'.edges → IsPart p' → ((b : Born) → Contains p'.edges b → Contains rows b) → ((b : ℕ) → b < length s.manifest.parts → counts_of next.map a b ≡ count_into (ends_of s.manifest) p'.edges b)

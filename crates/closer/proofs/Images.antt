@@ -12,7 +12,7 @@ use Rattle.disk_model.specs.Run.{and_then, at_end, no_step, then_no_more, then_r
 use Rattle.disk_model.specs.OneFile.{OnlyFile}
 use Rattle.manifest_codec.specs.declared.types.Manifest.{Manifest}
 use Rattle.manifest_codec.specs.declared.types.PartEntry.{PartEntry}
-use Rattle.manifest_codec.specs.Spelling.{Fits}
+use Rattle.manifest_codec.specs.Spelling.{FitsManifest}
 use Rattle.manifest_switch.specs.declared.slot.Slot.{Slot}
 use Rattle.manifest_switch.specs.declared.slot.Slot.TheVariants.{One, Zero}
 use Rattle.manifest_switch.specs.Slots.{chosen, current_of, file_of, is_open, open_body, other}
@@ -23,7 +23,7 @@ use Rattle.store_law.specs.Steps.{IsFree}
 use Rattle.store_law.proofs.Keeping.{file_above, file_apart, keeps_copies, kept_since}
 use Rattle.open_store.specs.Copy.{IsCopyRead}
 use Rattle.open_store.specs.Store.{IsHeldAlone, OpenStore}
-use Rattle.closer.specs.Continuation.{Continues, GoesOn, Retains}
+use Rattle.closer.specs.Continuation.{Continues, ImageGoesOn, Retains}
 use Rattle.closer.specs.Answers.{Moves}
 use Rattle.closer.specs.NextManifest.{Spares}
 use Rattle.closer.proofs.LawLemmas.{continues_elsewhere, continues_further}
@@ -74,7 +74,7 @@ lefts_held s c held =
     let h = g.reads.numbered i d lt in
     omega (arith, h, t, e)
 
-retains_stays : (m : Manifest) (d e c : Contents) → Fits m → Spares m d e → Stays e c → Retains m d c
+retains_stays : (m : Manifest) (d e c : Contents) → FitsManifest m → Spares m d e → Stays e c → Retains m d c
 retains_stays m d e c fits s t =
     record {
       same = t.same ∙ same_current d e (s.below 0 (omega arith)) (s.below 1 (omega arith));
@@ -134,7 +134,7 @@ module _ {D : Type 0} (seen : D → Contents) (moment : D → ℕ) (left_since :
       turn : (c : Contents) → From (images old) (Spares s.manifest) c → From (images old) (Moves s (seen old)) c
       turn c from = (from.0, from.1, inl (spared_retains s.manifest from.0 c from.2))
 
-  pub step_then : (s : OpenStore) (old mid new : D) (next : Manifest) → Fits s.manifest → LeavesOnly moment left_since old mid (From (images old) (Spares s.manifest)) → LeavesOnly moment left_since mid new (IsAmid (images mid) (seen mid) next) → ((c : Contents) → images mid c → Continues (normal_form s.rules) 1 (seen old) s.manifest (seen mid) next)
+  pub step_then : (s : OpenStore) (old mid new : D) (next : Manifest) → FitsManifest s.manifest → LeavesOnly moment left_since old mid (From (images old) (Spares s.manifest)) → LeavesOnly moment left_since mid new (IsAmid (images mid) (seen mid) next) → ((c : Contents) → images mid c → Continues (normal_form s.rules) 1 (seen old) s.manifest (seen mid) next)
       → LeavesOnly moment left_since old new (From (images old) (Moves s (seen old)))
   step_then s old mid new next fits run more on =
       then_run moment left_since images counts_now only_now old mid new (Spares s.manifest) (Switches (seen mid) next) (Moves s (seen old)) run more (λ d c spares. inl (spared_retains s.manifest d c spares)) (λ d e c image mid-image spares switches. turn d e c mid-image spares switches)
@@ -161,7 +161,7 @@ module _ {D : Type 0} (seen : D → Contents) (moment : D → ℕ) (left_since :
   first_behind s old c from = (from.0, from.1, inl from.2)
 
   -- and what goes on from it is, too
-  further_on : (s t : OpenStore) (old now : D) (k : ℕ) (c : Contents) → t.rules ≡ s.rules → Continues (normal_form s.rules) k (seen old) s.manifest (seen now) t.manifest → GoesOn (normal_form t.rules) (seen now) t.manifest c → GoesOn (normal_form s.rules) (seen old) s.manifest c
+  further_on : (s t : OpenStore) (old now : D) (k : ℕ) (c : Contents) → t.rules ≡ s.rules → Continues (normal_form s.rules) k (seen old) s.manifest (seen now) t.manifest → ImageGoesOn (normal_form t.rules) (seen now) t.manifest c → ImageGoesOn (normal_form s.rules) (seen old) s.manifest c
   further_on s t old now k c same on g =
       record {
         slot = g.slot;

@@ -9,12 +9,12 @@ use Rattle.io_edge.specs.Lines.{lines}
 use Rattle.grammar_norm.specs.GrammarText.{ReadsGrammar}
 use Rattle.normal_law.specs.Closure.{Normal}
 use Rattle.closing_machine.specs.State.{State}
-use Rattle.closing_machine.specs.Holds.{Holds, IsTask}
+use Rattle.closing_machine.specs.Holds.{IsClosingState, IsTask}
 use Rattle.closing_machine.proofs.Superstepping.{superstep_keeps}
 use Rattle.disk_model.specs.Disk.{Contents}
-use Rattle.partition_file.specs.Spelling.{Spells}
+use Rattle.partition_file.specs.Spelling.{SpellsPart}
 use Rattle.manifest_codec.specs.declared.types.Manifest.{Manifest}
-use Rattle.manifest_codec.specs.Spelling.{Fits}
+use Rattle.manifest_codec.specs.Spelling.{FitsManifest}
 use Rattle.store_law.specs.Texts.{Texts, graph, normal, rules, edges_text}
 use Rattle.store_law.specs.Listed.{AreListed, part_file, part_of, state_in}
 use Rattle.store_law.specs.Left.{IsCopy, IsLeft, IsOfTexts, IsStore, IsStoreOf}
@@ -23,7 +23,7 @@ use Rattle.store_law.proofs.Keeping.{listed_kept, store_kept}
 use Rattle.store_law.proofs.Named.{task_of_texts}
 use Rattle.open_store.specs.Copy.{IsCopyRead}
 use Rattle.open_store.specs.Store.{OpenStore}
-use Rattle.closer.specs.Continuation.{AfterSteps, Continues, GoesOn, IsWholePass, Retains}
+use Rattle.closer.specs.Continuation.{AfterSteps, Continues, ImageGoesOn, IsWholePass, Retains}
 use Rattle.closer.proofs.SameTexts.{copies_further, same_further, same_here}
 
 pub retains_store : (t : Texts) (d c : Contents) (m : Manifest) (parts : List (List Born)) → IsStore t d m parts → Retains m d c → IsStore t c m parts
@@ -31,8 +31,8 @@ retains_store t d c m parts s r = store_kept t d c m parts r.same r.files s
 
 -- ---- steps
 
-steps_hold : (n : Normal) (g : Graph) (k : ℕ) (s after : State) → IsTask n g → Holds n g s → AfterSteps n k s after → Holds n g after
-steps_hold n g zero s after task holds same = subst (Holds n g) (sym same) holds
+steps_hold : (n : Normal) (g : Graph) (k : ℕ) (s after : State) → IsTask n g → IsClosingState n g s → AfterSteps n k s after → IsClosingState n g after
+steps_hold n g zero s after task holds same = subst (IsClosingState n g) (sym same) holds
 steps_hold n g (suc k) s after task holds steps =
     let st : IsWholePass n steps.0 after = steps.2 in
     superstep_keeps n g task st.i st.j st.rounds true steps.0 after (steps_hold n g k s steps.0 task holds steps.1) st.step
@@ -65,7 +65,7 @@ store_after t c d k m next parts s on =
       e.3,
     )
 
-pub left_further : (t : Texts) (seen c : Contents) (m : Manifest) (parts : List (List Born)) → IsStoreOf t seen m parts → GoesOn (normal t) seen m c → IsLeft t c
+pub left_further : (t : Texts) (seen c : Contents) (m : Manifest) (parts : List (List Born)) → IsStoreOf t seen m parts → ImageGoesOn (normal t) seen m c → IsLeft t c
 left_further t seen c m parts s on =
     let e = store_after t seen c on.steps m on.next parts s on.continues in
     inr (on.next, e.0, record { slot = on.slot; current = on.current; rest = e.1 })
@@ -88,7 +88,7 @@ steps_add n k (suc l) a b c first last =
     subst (λ (x : ℕ). AfterSteps n x a c) e (last.0, steps_add n k l a b last.0 first last.1, last.2)
 
 -- no step
-pub continues_here : (n : Normal) (c : Contents) (m : Manifest) → Fits m → Continues n 0 c m c m
+pub continues_here : (n : Normal) (c : Contents) (m : Manifest) → FitsManifest m → Continues n 0 c m c m
 continues_here n c m fits =
     record {
       fits = fits;

@@ -5,7 +5,7 @@ use Rattle.std.proofs.lemmas.List.Elements.{All-contains}
 use Rattle.std.proofs.lemmas.List.Sums.{sum_by-cons}
 use Rattle.graph_words.specs.declared.types.Born.{Born}
 use Rattle.normal_law.specs.Closure.{Normal}
-use Rattle.closing_machine.specs.State.{IsCut, count, edges_of, greatest_birth, newest, part, target}
+use Rattle.closing_machine.specs.State.{EndsCut, count, edges_of, greatest_birth, newest, part, target}
 use Rattle.closing_machine.specs.Machine.{high, low}
 use Rattle.closing_machine.specs.Parts.{ArePartitions, all_edges, state_of}
 use Rattle.closing_machine.specs.Tells.{Tells}
@@ -13,12 +13,12 @@ use Rattle.closing_machine.proofs.Members.{All-from_members, either}
 use Rattle.closing_machine.proofs.Partitions.{all_where_one, filter_partitions}
 use Rattle.closing_machine.proofs.Room.{capacity_bounds}
 use Rattle.disk_model.specs.Disk.{Contents}
-use Rattle.partition_file.specs.Spelling.{Fits as PartFits, FitsEdge, IsExpect, IsPart, Part, Spells}
+use Rattle.partition_file.specs.Spelling.{FitsPart, FitsEdge, IsExpect, IsPart, Part, SpellsPart}
 use Rattle.partition_file.proofs.FileLaws.{one_part}
 use Rattle.dest_map.specs.Table.{counts_of}
 use Rattle.pair_sched.specs.Marks.{joined_of, newest_of}
 use Rattle.manifest_codec.specs.declared.types.Manifest.{Manifest}
-use Rattle.manifest_codec.specs.Spelling.{Fits}
+use Rattle.manifest_codec.specs.Spelling.{FitsManifest}
 use Rattle.store_law.specs.Listed.{AreListed, ends_of, expect_of, part_file, part_of, state_in}
 use Rattle.store_law.proofs.Intervals.{listed_partitions}
 use Rattle.open_store.specs.PartRead.{count_into}
@@ -29,13 +29,13 @@ use Rattle.closer.proofs.Turning.{KeptIn, NewIn, Turns, parts_same}
 
 -- ---- what a file spells is one partition
 
-ends_within : (from top : ℕ) (ends : List ℕ) (i : ℕ) → IsCut from ends top → (from ≤ top) × (slice_index_or (from ∷ ends) i 0 ≤ top) × (slice_index_or ends i 0 ≤ top)
+ends_within : (from top : ℕ) (ends : List ℕ) (i : ℕ) → EndsCut from ends top → (from ≤ top) × (slice_index_or (from ∷ ends) i 0 ≤ top) × (slice_index_or ends i 0 ≤ top)
 ends_within from top [] zero cut = (omega arith, omega arith, omega arith)
 ends_within from top [] (suc i) cut = (omega arith, omega arith, omega arith)
 ends_within from top (e ∷ es) zero cut = let later = ends_within e top es zero cut.1 in (omega (arith, cut.0, later.0), omega (arith, cut.0, later.0), later.0)
 ends_within from top (e ∷ es) (suc i) cut = let later = ends_within e top es i cut.1 in (omega (arith, cut.0, later.0), later.1, later.2)
 
-pub expected : (m : Manifest) (fresh i : ℕ) → Fits m → IsExpect (expect_of m fresh i)
+pub expected : (m : Manifest) (fresh i : ℕ) → FitsManifest m → IsExpect (expect_of m fresh i)
 expected m fresh i fits =
     let within = ends_within 0 m.vertices (ends_of m) i (cut m fits) in
     record {
@@ -45,10 +45,10 @@ expected m fresh i fits =
       round = fits.rounds;
     }
 
-pub listed_here : (c : Contents) (m : Manifest) (fresh a : ℕ) (parts : List (List Born)) (p : Part) → Fits m → AreListed c m fresh parts → a < length m.parts → p ≡ part_of m a p.edges → PartFits (expect_of m fresh a) (part_of m a p.edges) → Spells (c (part_file m a)) p → get_or parts a [] ≡ p.edges
+pub listed_here : (c : Contents) (m : Manifest) (fresh a : ℕ) (parts : List (List Born)) (p : Part) → FitsManifest m → AreListed c m fresh parts → a < length m.parts → p ≡ part_of m a p.edges → FitsPart (expect_of m fresh a) (part_of m a p.edges) → SpellsPart (c (part_file m a)) p → get_or parts a [] ≡ p.edges
 listed_here c m fresh a parts p fits listed la is here spells =
     ap (λ (x : Part). x.edges)
-    (one_part (expect_of m fresh a) (c (part_file m a)) (part_of m a (get_or parts a [])) (part_of m a p.edges) (expected m fresh a fits) (listed.fits a la) here (listed.spells a la) (subst (λ (x : Part). Spells (c (part_file m a)) x) is spells))
+    (one_part (expect_of m fresh a) (c (part_file m a)) (part_of m a (get_or parts a [])) (part_of m a p.edges) (expected m fresh a fits) (listed.fits a la) here (listed.spells a la) (subst (λ (x : Part). SpellsPart (c (part_file m a)) x) is spells))
 
 -- ---- counts by partitions
 
@@ -63,7 +63,7 @@ count_filter p q (x ∷ xs) =
     by_test true e r = let s = sum_by-cons (λ b. cond (q b) 1 0) x (filter p xs) in rw e (omega (arith, r, s))
     by_test false e r = rw e (omega (arith, r))
 
-module _ (ends : List ℕ) (parts : List (List Born)) (top round : ℕ) (marks : ℕ → ℕ → ℕ) (is_cut : IsCut 0 ends top) (are : ArePartitions 0 ends parts) where
+module _ (ends : List ℕ) (parts : List (List Born)) (top round : ℕ) (marks : ℕ → ℕ → ℕ) (is_cut : EndsCut 0 ends top) (are : ArePartitions 0 ends parts) where
   edges_here : (i : ℕ) → edges_of (state_of ends parts round marks) i ≡ get_or parts i []
   edges_here i = filter_partitions (λ (k : ℕ). k == i) 0 ends top parts is_cut are ∙ all_where_one parts i
 
@@ -86,10 +86,10 @@ pub record ComesIn (n : Normal) (m next : Manifest) (new : Contents) (after : Li
   pub edges : List Born
   pub is_new : NewIn m next a edges
   pub is : get_or after a [] ≡ edges
-  pub spelled : Spells (new (part_file next a)) (part_of m a edges)
+  pub spelled : SpellsPart (new (part_file next a)) (part_of m a edges)
   pub known : (b : Born) → Contains edges b → IsKnown n (length m.labels) b.edge.label
 
-module _ (n : Normal) (m next : Manifest) (fits : Fits m) (i j k : ℕ) (t : Turns m next i j k) (room : m.round + k < 2 ^ 64) (fits_next : Fits next) (old new : Contents) (parts after : List (List Born)) (listed : AreListed old m n.fresh parts) (size : length after ≡ length parts) (each : (a : ℕ) → a < length m.parts → StaysIn m next old new parts after a ⊎ ComesIn n m next new after a) where
+module _ (n : Normal) (m next : Manifest) (fits : FitsManifest m) (i j k : ℕ) (t : Turns m next i j k) (room : m.round + k < 2 ^ 64) (fits_next : FitsManifest next) (old new : Contents) (parts after : List (List Born)) (listed : AreListed old m n.fresh parts) (size : length after ≡ length parts) (each : (a : ℕ) → a < length m.parts → StaysIn m next old new parts after a ⊎ ComesIn n m next new after a) where
   same_part : (a : ℕ) (edges : List Born) → part_of m a edges ≡ part_of next a edges
   same_part a edges = ap (λ (l : List ℕ). record { lo = low l a; hi = high l a; edges = edges }) (sym t.ends)
 
@@ -125,7 +125,7 @@ module _ (n : Normal) (m next : Manifest) (fits : Fits m) (i j k : ℕ) (t : Tur
         earlier = All-contains (λ (y : Born). y.birth < next.round) edges b x.births has;
       }
 
-  part_fits : (a : ℕ) (edges : List Born) → IsPart (part_of m a edges) → ((b : Born) → Contains edges b → FitsEdge (expect_of next n.fresh a) b) → length edges < 2 ^ 64 → PartFits (expect_of next n.fresh a) (part_of next a edges)
+  part_fits : (a : ℕ) (edges : List Born) → IsPart (part_of m a edges) → ((b : Born) → Contains edges b → FitsEdge (expect_of next n.fresh a) b) → length edges < 2 ^ 64 → FitsPart (expect_of next n.fresh a) (part_of next a edges)
   part_fits a edges is each_edge few =
       record {
         lo = refl;
@@ -135,23 +135,23 @@ module _ (n : Normal) (m next : Manifest) (fits : Fits m) (i j k : ℕ) (t : Tur
         few = few;
       }
 
-  fits_after : (a : ℕ) → a < length m.parts → PartFits (expect_of next n.fresh a) (part_of next a (get_or after a []))
+  fits_after : (a : ℕ) → a < length m.parts → FitsPart (expect_of next n.fresh a) (part_of next a (get_or after a []))
   fits_after a la =
       either
       (λ s.
       let f = listed.fits a la in
-      subst (λ (l : List Born). PartFits (expect_of next n.fresh a) (part_of next a l)) (sym s.same)
+      subst (λ (l : List Born). FitsPart (expect_of next n.fresh a) (part_of next a l)) (sym s.same)
       (part_fits a (get_or parts a []) f.part (λ b has. old_edge a b (All-contains (FitsEdge (expect_of m n.fresh a)) (get_or parts a []) b f.each has)) f.few))
-      (λ c. subst (λ (l : List Born). PartFits (expect_of next n.fresh a) (part_of next a l)) (sym c.is) (part_fits a c.edges c.is_new.part (λ b has. new_edge a c.edges c.is_new b has (c.known b has)) (few_edges a c.edges c.is_new)))
+      (λ c. subst (λ (l : List Born). FitsPart (expect_of next n.fresh a) (part_of next a l)) (sym c.is) (part_fits a c.edges c.is_new.part (λ b has. new_edge a c.edges c.is_new b has (c.known b has)) (few_edges a c.edges c.is_new)))
       (each a la)
 
-  spells_after : (a : ℕ) → a < length m.parts → Spells (new (part_file next a)) (part_of next a (get_or after a []))
+  spells_after : (a : ℕ) → a < length m.parts → SpellsPart (new (part_file next a)) (part_of next a (get_or after a []))
   spells_after a la =
       either
       (λ s.
-      subst (λ (x : Part). Spells (new (part_file next a)) x) (same_part a (get_or parts a []) ∙ ap (λ (l : List Born). part_of next a l) (sym s.same))
-      (subst (λ (f : List ℕ). Spells f (part_of m a (get_or parts a []))) (sym s.file) (listed.spells a la)))
-      (λ c. subst (λ (x : Part). Spells (new (part_file next a)) x) (same_part a c.edges ∙ ap (λ (l : List Born). part_of next a l) (sym c.is)) c.spelled)
+      subst (λ (x : Part). SpellsPart (new (part_file next a)) x) (same_part a (get_or parts a []) ∙ ap (λ (l : List Born). part_of next a l) (sym s.same))
+      (subst (λ (f : List ℕ). SpellsPart f (part_of m a (get_or parts a []))) (sym s.file) (listed.spells a la)))
+      (λ c. subst (λ (x : Part). SpellsPart (new (part_file next a)) x) (same_part a c.edges ∙ ap (λ (l : List Born). part_of next a l) (sym c.is)) c.spelled)
       (each a la)
 
   same_size : length next.parts ≡ length m.parts

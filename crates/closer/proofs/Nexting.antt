@@ -10,18 +10,18 @@ use Rattle.closing_machine.specs.Machine.{high, low}
 use Rattle.closing_machine.proofs.Ordered.{same_ordered}
 use Rattle.closing_machine.proofs.Rounding.{rounds_grow}
 use Rattle.disk_model.specs.Disk.{Contents}
-use Rattle.partition_file.specs.Spelling.{IsPart, Part, Spells}
+use Rattle.partition_file.specs.Spelling.{IsPart, Part, SpellsPart}
 use Rattle.dest_map.specs.Table.{counts_of}
 use Rattle.manifest_codec.specs.declared.types.PartEntry.{PartEntry}
 use Rattle.manifest_codec.specs.declared.types.Manifest.{Manifest}
-use Rattle.manifest_codec.specs.Spelling.{Fits, IsMap}
+use Rattle.manifest_codec.specs.Spelling.{FitsManifest, IsMap}
 use Rattle.store_law.specs.Listed.{ends_of, part_file, part_of}
 use Rattle.row_table.specs.declared.span.Span.{Span}
 use Rattle.row_table.specs.Loaded.{span_of}
 use Rattle.open_store.specs.PartRead.{IsTold, count_into}
 use Rattle.open_store.specs.Store.{OpenStore}
 use Rattle.open_store.proofs.Tallies.{ends_count}
-use Rattle.closer.specs.NextManifest.{ArePairIn, AreRun, AreSpelled, IsMarked, IsWell, MayPut, MayPutPair}
+use Rattle.closer.specs.NextManifest.{ArePairIn, AreRun, AreSpelled, IsMarked, IsWell, MayPutPart, MayPutPair}
 use Rattle.closer.proofs.Bounds.{cut}
 use Rattle.closer.proofs.Running.{cut_apart, in_first, in_second, old_one}
 use Rattle.closer.proofs.Turning.{KeptIn}
@@ -69,7 +69,7 @@ module _ (n : Normal) (start : List Born) (since round k last : ℕ) (rows : Lis
   pub same_one : IsOrdered start → IsOrdered rows → all_older round rows → rows ≡ start
   same_one before after old = same_ordered rows start after before (λ b m. old_one n start since round k last rows r b (older round rows old b m) m) (λ b m. rounds_grow n start since round r b m)
 
-module _ (n : Normal) (m : Manifest) (fits : Fits m) (a z : ℕ) (apart : a < z) (within : z < length m.parts) (p q p' q' : List Born) (since round k last : ℕ) (r : Rounds n (p ++ q) since round k (p' ++ q') last) (p-part : IsPart (part_of m a p)) (q-part : IsPart (part_of m z q)) (p'-part : IsPart (part_of m a p')) (q'-part : IsPart (part_of m z q')) where
+module _ (n : Normal) (m : Manifest) (fits : FitsManifest m) (a z : ℕ) (apart : a < z) (within : z < length m.parts) (p q p' q' : List Born) (since round k last : ℕ) (r : Rounds n (p ++ q) since round k (p' ++ q') last) (p-part : IsPart (part_of m a p)) (q-part : IsPart (part_of m z q)) (p'-part : IsPart (part_of m a p')) (q'-part : IsPart (part_of m z q')) where
   behind : high (ends_of m) a ≤ low (ends_of m) z
   behind = cut_apart 0 (ends_of m) m.vertices a z (cut m fits) apart (omega (arith, within, ends_count m))
 
@@ -89,7 +89,7 @@ module _ (n : Normal) (m : Manifest) (fits : Fits m) (a z : ℕ) (apart : a < z)
 
 -- ---- the manifest at the start of the puts
 
-module _ (m : Manifest) (fits : Fits m) (i j k : ℕ) (start : Manifest) (s : IsMarked m i j k start) where
+module _ (m : Manifest) (fits : FitsManifest m) (i j k : ℕ) (start : Manifest) (s : IsMarked m i j k start) where
   pub ends_start : ends_of start ≡ ends_of m
   ends_start = ap (λ (l : List PartEntry). map (λ p. p.hi) l) s.parts
 
@@ -123,8 +123,8 @@ module _ (m : Manifest) (fits : Fits m) (i j k : ℕ) (start : Manifest) (s : Is
         newest = (kept_start a).newest ∙ told.newest;
       }
 
-module _ (st : OpenStore) (fits : Fits st.manifest) (i j k : ℕ) (start : Manifest) (s : IsMarked st.manifest i j k start) (tells : Bool) (c : Contents) where
-  pub may_put : (a : ℕ) (p p' : Part) → a < length st.manifest.parts → p ≡ part_of st.manifest a p.edges → IsTold st.manifest a p.edges → (IsTrue tells → Spells (c (part_file st.manifest a)) p) → p' ≡ part_of st.manifest a p'.edges → (all_older st.manifest.round p'.edges → p'.edges ≡ p.edges) → MayPut st tells c a p' start
+module _ (st : OpenStore) (fits : FitsManifest st.manifest) (i j k : ℕ) (start : Manifest) (s : IsMarked st.manifest i j k start) (tells : Bool) (c : Contents) where
+  pub may_put : (a : ℕ) (p p' : Part) → a < length st.manifest.parts → p ≡ part_of st.manifest a p.edges → IsTold st.manifest a p.edges → (IsTrue tells → SpellsPart (c (part_file st.manifest a)) p) → p' ≡ part_of st.manifest a p'.edges → (all_older st.manifest.round p'.edges → p'.edges ≡ p.edges) → MayPutPart st tells c a p' start
   may_put a p p' lt p-is told spelled p'-is same =
       record {
         there = omega (arith, lt, size_start st.manifest fits i j k start s);
@@ -133,7 +133,7 @@ module _ (st : OpenStore) (fits : Fits st.manifest) (i j k : ℕ) (start : Manif
         well = well_start st.manifest fits i j k start s;
         older = let h = fits.newest a lt in omega (arith, h, (kept_start st.manifest fits i j k start s a).newest);
         told = λ old. subst (λ (l : List Born). IsTold start a l) (sym (same old)) (told_start st.manifest fits i j k start s a p.edges told);
-        same = λ tell old. subst (λ (f : ℕ). Spells (c f) p') (sym (file_start st.manifest fits i j k start s a)) (subst (λ (x : Part). Spells (c (part_file st.manifest a)) x) (p-is ∙ ap (λ (l : List Born). part_of st.manifest a l) (sym (same old)) ∙ sym p'-is) (spelled tell));
+        same = λ tell old. subst (λ (f : ℕ). SpellsPart (c f) p') (sym (file_start st.manifest fits i j k start s a)) (subst (λ (x : Part). SpellsPart (c (part_file st.manifest a)) x) (p-is ∙ ap (λ (l : List Born). part_of st.manifest a l) (sym (same old)) ∙ sym p'-is) (spelled tell));
       }
 
   pub may_put_pair : (since low high : ℕ) (p : Part) (q : Option Part) (p' : Part) (q' : Option Part) → ArePairIn st low high p q → (IsTrue tells → AreSpelled st c low high p q) → AreRun (normal_form st.rules) since st.manifest.round p q p' q' k → MayPutPair st tells c low high p' q' start

@@ -10,7 +10,7 @@ use Rattle.closing_machine.specs.State.{greatest_birth}
 use Rattle.closing_machine.proofs.Members.{either}
 use Rattle.disk_model.specs.Disk.{Contents, Sets}
 use Rattle.disk_model.specs.OneFile.{only_set}
-use Rattle.partition_file.specs.Spelling.{newest_format, Part, Spells, spelling}
+use Rattle.partition_file.specs.Spelling.{newest_format, Part, SpellsPart, spelling}
 use Rattle.dest_map.specs.Table.{entry}
 use Rattle.dest_map.proofs.TableLemmas.{entry_set}
 use Rattle.pair_sched.specs.Marks.{newest_of}
@@ -23,7 +23,7 @@ use Rattle.open_store.specs.PartRead.{count_into}
 use Rattle.open_store.specs.Stream.{IsTally}
 use Rattle.open_store.specs.Store.{OpenStore}
 use Rattle.open_store.proofs.Tallies.{ends_count}
-use Rattle.closer.specs.NextManifest.{ArePut, IsWell, MayPut, MayPutPair, Puts, Refiles, Replaces, TakesOn}
+use Rattle.closer.specs.NextManifest.{ArePut, IsWell, MayPutPart, MayPutPair, Puts, Refiles, Replaces, TakesOn}
 use Rattle.closer.proofs.Flat.{is_it}
 use Rattle.closer.proofs.Images.{spares_only, spares_refl}
 use Rattle.closer.proofs.SameTexts.{same_here}
@@ -137,7 +137,7 @@ takes_new round a file newest ends edges row next after b there well r least mos
     there_else t x e = rw e refl
 
 -- where no edge is new
-pub takes_none : (s : OpenStore) (tells : Bool) (c : Contents) (a : ℕ) (p : Part) (next : Manifest) → MayPut s tells c a p next → All (λ b. b.birth < s.manifest.round) p.edges → TakesOn s.manifest.round a p.edges next next
+pub takes_none : (s : OpenStore) (tells : Bool) (c : Contents) (a : ℕ) (p : Part) (next : Manifest) → MayPutPart s tells c a p next → All (λ b. b.birth < s.manifest.round) p.edges → TakesOn s.manifest.round a p.edges next next
 takes_none s tells c a p next may old =
     let told = may.told old in
     record {
@@ -161,14 +161,14 @@ pub puts_new : (m : Manifest) (a file newest : ℕ) (row : List ℕ) (p : Part) 
 puts_new m a file newest row p next after old new there r free untaken sets =
     record {
       spares = spares_only m file old new free (only_set file (spelling newest_format p) old new sets);
-      spelled = subst (λ (f : ℕ). Spells (new f) p) (sym (file_here a file next.parts after.parts r.refiles there)) (newest_format, sets.here);
+      spelled = subst (λ (f : ℕ). SpellsPart (new f) p) (sym (file_here a file next.parts after.parts r.refiles there)) (newest_format, sets.here);
       others = λ x lt ne. sets.others (part_file next x) (λ same. untaken x no_entry lt (sym (get_or-map (λ (q : PartEntry). q.file) next.parts x no_entry 0 lt) ∙ same));
     }
   where
     no_entry : PartEntry
     no_entry = record { hi = 0; file = 0 }
 
-pub puts_none : (s : OpenStore) (tells : Bool) (a : ℕ) (p : Part) (next : Manifest) (c : Contents) → MayPut s tells c a p next → IsTrue tells → All (λ b. b.birth < s.manifest.round) p.edges → Puts s.manifest a p next next c c
+pub puts_none : (s : OpenStore) (tells : Bool) (a : ℕ) (p : Part) (next : Manifest) (c : Contents) → MayPutPart s tells c a p next → IsTrue tells → All (λ b. b.birth < s.manifest.round) p.edges → Puts s.manifest a p next next c c
 puts_none s tells a p next c may tell old = record { spares = spares_refl s.manifest c; spelled = may.same tell old; others = λ x lt ne. refl }
 
 -- no birth is greater than the greatest
@@ -185,7 +185,7 @@ rises round old newest ends edges row b low tally has new =
 
 -- ---- the second of two
 
-pub may_put_then : (s : OpenStore) (tells : Bool) (c d : Contents) (a z : ℕ) (p q : Part) (next after : Manifest) → a ≢ z → MayPut s tells c z q next → TakesOn s.manifest.round a p.edges next after → (IsTrue tells → Puts s.manifest a p next after c d) → MayPut s tells d z q after
+pub may_put_then : (s : OpenStore) (tells : Bool) (c d : Contents) (a z : ℕ) (p q : Part) (next after : Manifest) → a ≢ z → MayPutPart s tells c z q next → TakesOn s.manifest.round a p.edges next after → (IsTrue tells → Puts s.manifest a p next after c d) → MayPutPart s tells d z q after
 may_put_then s tells c d a z p q next after apart may t put =
     let ne : z ≢ a = λ e. apart (sym e) in
     let len : length after.parts ≡ length next.parts = sym (ends_count after) ∙ ap (λ (l : List ℕ). length l) t.ends ∙ ends_count next in
@@ -198,10 +198,10 @@ may_put_then s tells c d a z p q next after apart may t put =
       told = λ old.
           let told = may.told old in
           record { counts = λ b lb. t.other_counts z b ne ∙ told.counts b (omega (arith, lb, len)) ∙ ap (λ (l : List ℕ). count_into l q.edges b) (sym t.ends); newest = t.other_newest z ne ∙ told.newest };
-      same = λ tell old. subst (λ (f : List ℕ). Spells f q) (sym (ap d (t.other_files z ne) ∙ (put tell).others z may.there ne)) (may.same tell old);
+      same = λ tell old. subst (λ (f : List ℕ). SpellsPart f q) (sym (ap d (t.other_files z ne) ∙ (put tell).others z may.there ne)) (may.same tell old);
     }
 
-pub first_may : (s : OpenStore) (tells : Bool) (c : Contents) (low high : ℕ) (p' : Part) (q' : Option Part) (next : Manifest) → MayPutPair s tells c low high p' q' next → MayPut s tells c low p' next
+pub first_may : (s : OpenStore) (tells : Bool) (c : Contents) (low high : ℕ) (p' : Part) (q' : Option Part) (next : Manifest) → MayPutPair s tells c low high p' q' next → MayPutPart s tells c low p' next
 first_may s tells c low high p' None next may = may
 first_may s tells c low high p' (Some q) next may = may.1
 

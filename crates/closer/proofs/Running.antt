@@ -6,12 +6,12 @@ use Rattle.graph_words.specs.declared.types.Born.{Born}
 use Rattle.graph_words.specs.declared.types.LabelId.{LabelId}
 use Rattle.graph_words.specs.declared.types.Rule.{Rule}
 use Rattle.graph_words.specs.Reach.{rule}
-use Rattle.normal_law.specs.Closure.{IsFresh, IsUp, Normal, itself, above}
+use Rattle.normal_law.specs.Closure.{IsFreshLabel, IsUp, Normal, itself, above}
 use Rattle.normal_law.specs.Closed.{Joins}
 use Rattle.normal_law.specs.NormalForm.{normal_form}
 use Rattle.normal_law.proofs.Chains.{IsNormalForm-normal_form}
 use Rattle.normal_form.specs.Grammar.{IsGrammar}
-use Rattle.closing_machine.specs.State.{IsCut}
+use Rattle.closing_machine.specs.State.{EndsCut}
 use Rattle.closing_machine.specs.Rounds.{Rounds}
 use Rattle.closing_machine.proofs.Members.{either}
 use Rattle.closing_machine.proofs.Rounding.{rounds_births, rounds_cases, rounds_keep}
@@ -20,7 +20,7 @@ use Rattle.closing_machine.proofs.Rounding.{rounds_births, rounds_cases, rounds_
 
 -- a label of the rules by their numbers, or a fresh one
 abbrev pub IsKnown : Normal → ℕ → LabelId → Type 0
-IsKnown n named l = (l.0 < named) ⊎ IsFresh n l
+IsKnown n named l = (l.0 < named) ⊎ IsFreshLabel n l
 
 up_known : (rules : List Rule) (fresh : LabelId → Type 0) (named : ℕ) (b a : LabelId) → All (λ r. r.left.0 < named) rules → (b.0 < named) ⊎ fresh b → IsUp rules b a → (a.0 < named) ⊎ fresh a
 up_known rules fresh named b a lefts k itself = k
@@ -28,7 +28,7 @@ up_known rules fresh named b a lefts k (above c up has) = inl (All-contains (λ 
 
 pub joins_known : (rules : List Rule) (named : ℕ) → IsGrammar rules → All (λ r. r.left.0 < named) rules → (b c a : LabelId) → Joins (normal_form rules) b c a → IsKnown (normal_form rules) named a
 joins_known rules named g lefts b c a (p, has, e, f, up) =
-    up_known rules (IsFresh (normal_form rules)) named p.left a lefts
+    up_known rules (IsFreshLabel (normal_form rules)) named p.left a lefts
     (either (λ h. inl (All-contains (λ (r : Rule). r.left.0 < named) rules (rule p.left _) lefts h.1)) (λ h. inr h.0) ((IsNormalForm-normal_form rules g.named).only p has)) up
 
 -- ---- the edges after the rounds
@@ -48,13 +48,13 @@ module _ (n : Normal) (start : List Born) (since round k last : ℕ) (rows : Lis
 
 -- ---- where the edges of two partitions stand
 
-cut_low : (from : ℕ) (ends : List ℕ) (to : ℕ) (j : ℕ) → IsCut from ends to → j ≤ length ends → from ≤ get_or (from ∷ ends) j 0
+cut_low : (from : ℕ) (ends : List ℕ) (to : ℕ) (j : ℕ) → EndsCut from ends to → j ≤ length ends → from ≤ get_or (from ∷ ends) j 0
 cut_low from ends to zero cut le = omega arith
 cut_low from [] to (suc j) cut le = absurd (omega arith)
 cut_low from (e ∷ es) to (suc j) cut le = let r = cut_low e es to j cut.1 (omega arith) in let h : from < e = cut.0 in omega arith
 
 -- one interval ends where a later one begins, or before
-pub cut_apart : (from : ℕ) (ends : List ℕ) (to : ℕ) (i j : ℕ) → IsCut from ends to → i < j → j ≤ length ends → get_or ends i 0 ≤ get_or (from ∷ ends) j 0
+pub cut_apart : (from : ℕ) (ends : List ℕ) (to : ℕ) (i j : ℕ) → EndsCut from ends to → i < j → j ≤ length ends → get_or ends i 0 ≤ get_or (from ∷ ends) j 0
 cut_apart from [] to i j cut lt le = absurd (omega arith)
 cut_apart from (e ∷ es) to zero zero cut lt le = absurd (omega arith)
 cut_apart from (e ∷ es) to zero (suc j) cut lt le = cut_low e es to j cut.1 (omega arith)

@@ -18,12 +18,12 @@ use Rattle.closing_machine.proofs.Storing.{superstep_on_one, superstep_on_two}
 use Rattle.closing_machine.proofs.Swapping.{superstep_swap}
 use Rattle.closing_machine.proofs.Telling.{pick_told}
 use Rattle.disk_model.specs.Disk.{Contents}
-use Rattle.partition_file.specs.Spelling.{IsPart, Part, Spells}
+use Rattle.partition_file.specs.Spelling.{IsPart, Part, SpellsPart}
 use Rattle.dest_map.specs.Table.{counts_of}
 use Rattle.pair_sched.specs.Marks.{joined_of, newest_of}
 use Rattle.manifest_codec.specs.declared.types.PartEntry.{PartEntry}
 use Rattle.manifest_codec.specs.declared.types.Manifest.{Manifest}
-use Rattle.manifest_codec.specs.Spelling.{Fits}
+use Rattle.manifest_codec.specs.Spelling.{FitsManifest}
 use Rattle.store_law.specs.Listed.{AreListed, ends_of, part_file, part_of, state_in}
 use Rattle.store_law.proofs.Intervals.{listed_partitions}
 use Rattle.superstep.specs.Room.{IsInFormat}
@@ -105,8 +105,8 @@ module _ (s : OpenStore) (is : IsOpenStore s) (left : All (λ r. r.left.0 < leng
   )
 
   -- ---- one partition
-  module _ (same : first ≡ last) (p p' : Part) (x : IsPartIn s first p) (spelled : Spells (old (part_file m first)) p) (run : (budget : ℕ) → length p'.edges ≤ budget → IsPairRun n p.edges since m.round budget true k p'.edges) (p'-is : p' ≡ part_of m first p'.edges) (part : IsPart p') (format : All IsInFormat p'.edges) (next : Manifest)
-      (t : TakesOn m.round first p'.edges start next) (new : Contents) (put : Puts m first p' start next old new) (fits_next : Fits next) where
+  module _ (same : first ≡ last) (p p' : Part) (x : IsPartIn s first p) (spelled : SpellsPart (old (part_file m first)) p) (run : (budget : ℕ) → length p'.edges ≤ budget → IsPairRun n p.edges since m.round budget true k p'.edges) (p'-is : p' ≡ part_of m first p'.edges) (part : IsPart p') (format : All IsInFormat p'.edges) (next : Manifest)
+      (t : TakesOn m.round first p'.edges start next) (new : Contents) (put : Puts m first p' start next old new) (fits_next : FitsManifest next) where
     r1 : IsPairRun n p.edges since m.round (length p'.edges) true k p'.edges
     r1 = run (length p'.edges) (omega arith)
 
@@ -124,7 +124,7 @@ module _ (s : OpenStore) (is : IsOpenStore s) (left : All (λ r. r.left.0 < leng
           edges = p'.edges;
           is_new = subst (λ (z : ℕ). NewIn m next z p'.edges) (sym e) (new_one s is.fits i j k start marked turned first p p' x since r1.last r1.rounds p'-is part format next t);
           is = ap (λ (z : ℕ). get_or (slice_set parts first p'.edges) z []) e ∙ get_or-set_same parts first p'.edges [] (omega (arith, x.there, listed.size));
-          spelled = subst (λ (z : ℕ). Spells (new (part_file next z)) (part_of m z p'.edges)) (sym e) (subst (λ (z : Part). Spells (new (part_file next first)) z) p'-is put.spelled);
+          spelled = subst (λ (z : ℕ). SpellsPart (new (part_file next z)) (part_of m z p'.edges)) (sym e) (subst (λ (z : Part). SpellsPart (new (part_file next first)) z) p'-is put.spelled);
           known = known_one;
         }))
         (λ ne. inl
@@ -158,8 +158,8 @@ module _ (s : OpenStore) (is : IsOpenStore s) (left : All (λ r. r.left.0 < leng
         }
 
   -- ---- two partitions
-  module _ (apart : first < last) (p q p' q' : Part) (x : IsPartIn s first p) (y : IsPartIn s last q) (p-spelled : Spells (old (part_file m first)) p) (q-spelled : Spells (old (part_file m last)) q) (run : (budget : ℕ) → length (p'.edges ++ q'.edges) ≤ budget → IsPairRun n (p.edges ++ q.edges) since m.round budget true k (p'.edges ++ q'.edges)) (p'-is : p' ≡ part_of m first p'.edges)
-      (q'-is : q' ≡ part_of m last q'.edges) (p'-part : IsPart p') (q'-part : IsPart q') (format : All IsInFormat (p'.edges ++ q'.edges)) (mid next : Manifest) (t : TakesOn m.round first p'.edges start mid) (u : TakesOn m.round last q'.edges mid next) (between new : Contents) (put : Puts m first p' start mid old between) (put' : Puts m last q' mid next between new) (fits_next : Fits next) where
+  module _ (apart : first < last) (p q p' q' : Part) (x : IsPartIn s first p) (y : IsPartIn s last q) (p-spelled : SpellsPart (old (part_file m first)) p) (q-spelled : SpellsPart (old (part_file m last)) q) (run : (budget : ℕ) → length (p'.edges ++ q'.edges) ≤ budget → IsPairRun n (p.edges ++ q.edges) since m.round budget true k (p'.edges ++ q'.edges)) (p'-is : p' ≡ part_of m first p'.edges)
+      (q'-is : q' ≡ part_of m last q'.edges) (p'-part : IsPart p') (q'-part : IsPart q') (format : All IsInFormat (p'.edges ++ q'.edges)) (mid next : Manifest) (t : TakesOn m.round first p'.edges start mid) (u : TakesOn m.round last q'.edges mid next) (between new : Contents) (put : Puts m first p' start mid old between) (put' : Puts m last q' mid next between new) (fits_next : FitsManifest next) where
     r2 : IsPairRun n (p.edges ++ q.edges) since m.round (length (p'.edges ++ q'.edges)) true k (p'.edges ++ q'.edges)
     r2 = run (length (p'.edges ++ q'.edges)) (omega arith)
 
@@ -190,7 +190,7 @@ module _ (s : OpenStore) (is : IsOpenStore s) (left : All (λ r. r.left.0 < leng
           edges = p'.edges;
           is_new = subst (λ (z : ℕ). NewIn m next z p'.edges) (sym e) (new_low s is.fits i j k start marked turned first last apart p q p' q' x y since r2.last r2.rounds p'-is q'-is p'-part q'-part format mid next t u);
           is = ap (λ (z : ℕ). get_or (after_two parts) z []) e ∙ get_or-set_other (slice_set parts first p'.edges) last first q'.edges [] not_last ∙ get_or-set_same parts first p'.edges [] (omega (arith, x.there, listed.size));
-          spelled = subst (λ (z : ℕ). Spells (new (part_file next z)) (part_of m z p'.edges)) (sym e) (subst (λ (z : Part). Spells (new (part_file next first)) z) p'-is (subst (λ (f : List ℕ). Spells f p') (sym low_file) put.spelled));
+          spelled = subst (λ (z : ℕ). SpellsPart (new (part_file next z)) (part_of m z p'.edges)) (sym e) (subst (λ (z : Part). SpellsPart (new (part_file next first)) z) p'-is (subst (λ (f : List ℕ). SpellsPart f p') (sym low_file) put.spelled));
           known = λ b has. known_two b (Contains-append_left p'.edges q'.edges b has);
         }))
         (λ ne.
@@ -200,7 +200,7 @@ module _ (s : OpenStore) (is : IsOpenStore s) (left : All (λ r. r.left.0 < leng
           edges = q'.edges;
           is_new = subst (λ (z : ℕ). NewIn m next z q'.edges) (sym e) (new_high s is.fits i j k start marked turned first last apart p q p' q' x y since r2.last r2.rounds p'-is q'-is p'-part q'-part format mid next t u);
           is = ap (λ (z : ℕ). get_or (after_two parts) z []) e ∙ get_or-set_same (slice_set parts first p'.edges) last q'.edges [] (omega (arith, y.there, listed.size, length-set parts first p'.edges));
-          spelled = subst (λ (z : ℕ). Spells (new (part_file next z)) (part_of m z q'.edges)) (sym e) (subst (λ (z : Part). Spells (new (part_file next last)) z) q'-is put'.spelled);
+          spelled = subst (λ (z : ℕ). SpellsPart (new (part_file next z)) (part_of m z q'.edges)) (sym e) (subst (λ (z : Part). SpellsPart (new (part_file next last)) z) q'-is put'.spelled);
           known = λ b has. known_two b (Contains-append_right p'.edges q'.edges b has);
         }))
         (λ nz. inl

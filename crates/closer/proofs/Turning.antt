@@ -5,7 +5,7 @@ use Rattle.std.proofs.Math.Nat.{mod-lt}
 use Rattle.std.proofs.lemmas.Bool.{cases_lt}
 use Rattle.std.proofs.lemmas.List.Elements.{All-head, All-tail}
 use Rattle.graph_words.specs.declared.types.Born.{Born}
-use Rattle.closing_machine.specs.State.{IsCut, IsDirtyBy, greatest_birth}
+use Rattle.closing_machine.specs.State.{EndsCut, IsDirtyBy, greatest_birth}
 use Rattle.closing_machine.specs.Machine.{is_among}
 use Rattle.closing_machine.specs.Measure.{dirty_pairs}
 use Rattle.closing_machine.proofs.Falling.{dirty_bound, marking_falls}
@@ -15,7 +15,7 @@ use Rattle.dest_map.specs.Table.{counts_of}
 use Rattle.pair_sched.specs.Marks.{joined_of, newest_of}
 use Rattle.manifest_codec.specs.declared.types.PartEntry.{PartEntry}
 use Rattle.manifest_codec.specs.declared.types.Manifest.{Manifest}
-use Rattle.manifest_codec.specs.Spelling.{Cover, Fits, width}
+use Rattle.manifest_codec.specs.Spelling.{Cover, FitsManifest, width}
 use Rattle.manifest_codec.specs.Same.{AreOfSameTexts}
 use Rattle.manifest_switch.specs.Slots.{next_generation}
 use Rattle.store_law.specs.Listed.{ends_of, part_of}
@@ -55,7 +55,7 @@ greatest_below (b ∷ bs) r some all =
     let rest = greatest_below bs r some (All-tail (λ (x : Born). x.birth < r) b bs all) in
     omega arith
 
-cover_from_cut : (top from : ℕ) (parts : List PartEntry) → IsCut from (map (λ p. p.hi) parts) top → Cover top from parts
+cover_from_cut : (top from : ℕ) (parts : List PartEntry) → EndsCut from (map (λ p. p.hi) parts) top → Cover top from parts
 cover_from_cut top from [] cut = cut
 cover_from_cut top from (p ∷ ps) cut = (cut.0, cover_from_cut top p.hi ps cut.1)
 
@@ -63,7 +63,7 @@ marked_within : (t : Bool) (x y r : ℕ) → x ≤ r → y ≤ r → cond t x y 
 marked_within true x y r a b = a
 marked_within false x y r a b = b
 
-module _ (m next : Manifest) (fits : Fits m) (i j k : ℕ) (t : Turns m next i j k) (room : m.round + k < 2 ^ 64) where
+module _ (m next : Manifest) (fits : FitsManifest m) (i j k : ℕ) (t : Turns m next i j k) (room : m.round + k < 2 ^ 64) where
   pub parts_same : length next.parts ≡ length m.parts
   parts_same = sym (ends_count next) ∙ ap length t.ends ∙ ends_count m
 
@@ -90,7 +90,7 @@ module _ (m next : Manifest) (fits : Fits m) (i j k : ℕ) (t : Turns m next i j
         let w = marked_within (is_among i j a && is_among i j b) (m.round + k) (joined_of m.marks a b) (m.round + k) (omega arith) (omega (arith, h)) in
         omega (arith, w, e, t.joined a b)
 
-    pub next_fits : Fits next
+    pub next_fits : FitsManifest next
     next_fits =
         record {
           generation = let lt = mod-lt (m.generation + 1) {m = 3} (omega arith) in omega (arith, t.generation, lt);

@@ -10,12 +10,12 @@ use Rattle.dest_map.specs.Table.{counts_of}
 use Rattle.pair_sched.specs.Marks.{joined_of, newest_of}
 use Rattle.manifest_switch.specs.Slots.{other}
 use Rattle.store_law.specs.Listed.{part_file}
-use Rattle.store_law.specs.Left.{IsDone}
+use Rattle.store_law.specs.Left.{HasNoWork}
 use Rattle.open_store.specs.Store.{IsHeldAlone, OpenStore}
 use Rattle.open_store.specs.PartRead.{IsRefused}
 use Rattle.closer.specs.declared.one_step.Stepped.{Stepped}
 use Rattle.closer.specs.declared.one_step.Stepped.TheVariants.{Again, Finished}
-use Rattle.closer.specs.Continuation.{Continues, GoesOn, HasWork, Retains, work_of}
+use Rattle.closer.specs.Continuation.{Continues, ImageGoesOn, HasWork, Retains, work_of}
 
 abbrev pub IfFinished : Stepped → (OpenStore → Type 0) → Type 0
 IfFinished (Finished s) P = P s
@@ -38,9 +38,9 @@ pub record IsStepped (tells : Bool) (seen_before : Contents) (before : OpenStore
   pub synced : LeavesJust seen images
 
 -- The store has no work left, and came from the one before by some steps.
-pub record IsClosed (tells : Bool) (seen_before : Contents) (images_before : Contents → Type 0) (before : OpenStore)
+pub record IsClosedStore (tells : Bool) (seen_before : Contents) (images_before : Contents → Type 0) (before : OpenStore)
     (seen : Contents) (images : Contents → Type 0) (s : OpenStore) : Type 0 where
-  pub done : IsDone s.manifest
+  pub done : HasNoWork s.manifest
   pub continues : IsTrue tells → (k : ℕ) × Continues (normal_form before.rules) k seen_before before.manifest seen s.manifest
   pub rules_are : s.rules ≡ before.rules
   pub held : (c : Contents) → images c → IsHeldAlone s c
@@ -48,7 +48,7 @@ pub record IsClosed (tells : Bool) (seen_before : Contents) (images_before : Con
 
 -- what steps make of an image at each moment: it keeps the store as it was, or goes on from it as a read gave it
 abbrev pub Moves : OpenStore → Contents → Contents → Contents → Type 0
-Moves s seen old new = Retains s.manifest old new ⊎ GoesOn (normal_form s.rules) seen s.manifest new
+Moves s seen old new = Retains s.manifest old new ⊎ ImageGoesOn (normal_form s.rules) seen s.manifest new
 
 -- a partition of the pair that is picked is blamed, whose file, as read, is no file of it
 pub record BlamesPicked (s : OpenStore) (tells : Bool) (seen : Contents) (file place : ℕ) (kind : FormKind) : Type 0 where

@@ -11,7 +11,7 @@ use Rattle.disk_model.specs.Disk.{Contents}
 use Rattle.dest_map.specs.Table.{counts_of}
 use Rattle.pair_sched.specs.Marks.{joined_of, newest_of}
 use Rattle.manifest_codec.specs.declared.types.Manifest.{Manifest}
-use Rattle.manifest_codec.specs.Spelling.{Fits}
+use Rattle.manifest_codec.specs.Spelling.{FitsManifest}
 use Rattle.manifest_codec.specs.Same.{AreOfSameTexts}
 use Rattle.manifest_switch.specs.declared.slot.Slot.{Slot}
 use Rattle.manifest_switch.specs.declared.slot.Found.TheVariants.{At}
@@ -37,7 +37,7 @@ AfterSteps n (suc k) s after = (mid : State) × AfterSteps n k s mid × IsWholeP
 -- the manifest `next` in the contents d goes on from m in c by k steps: it is of the same texts, and whatever
 -- partitions m lists and tells of, it lists and tells of those after the steps
 pub record Continues (n : Normal) (k : ℕ) (c : Contents) (m : Manifest) (d : Contents) (next : Manifest) : Type 0 where
-  pub fits : Fits next
+  pub fits : FitsManifest next
   pub same : AreOfSameTexts m next
   pub copies : KeepsCopies m c d
   pub steps : (parts : List (List Born)) → AreListed c m n.fresh parts
@@ -52,7 +52,7 @@ pub record Retains (m : Manifest) (old new : Contents) : Type 0 where
   pub files : KeepsFiles m old new
 
 -- or a manifest is current that goes on from m, as a read gave it
-pub record GoesOn (n : Normal) (seen : Contents) (m : Manifest) (c : Contents) : Type 0 where
+pub record ImageGoesOn (n : Normal) (seen : Contents) (m : Manifest) (c : Contents) : Type 0 where
   pub slot : Slot
   pub next : Manifest
   pub steps : ℕ

@@ -10,7 +10,7 @@ use Rattle.closing_machine.specs.Machine.{is_among}
 use Rattle.closing_machine.specs.PairRun.{IsPairRun}
 use Rattle.disk_model.specs.Disk.{Contents}
 use Rattle.faults.specs.declared.form_kind.FormKind.{FormKind}
-use Rattle.partition_file.specs.Spelling.{Fits, IsPart, Part, Spells}
+use Rattle.partition_file.specs.Spelling.{FitsPart, IsPart, Part, SpellsPart}
 use Rattle.dest_map.specs.Table.{counts_of}
 use Rattle.pair_sched.specs.Marks.{joined_of, newest_of}
 use Rattle.manifest_codec.specs.declared.types.Manifest.{Manifest}
@@ -28,7 +28,7 @@ use Rattle.open_store.specs.Store.{OpenStore, expect_in}
 pub record IsPartIn (s : OpenStore) (a : ℕ) (p : Part) : Type 0 where
   pub there : a < length s.manifest.parts
   pub part_is : p ≡ part_of s.manifest a p.edges
-  pub fits : Fits (expect_in s a) (part_of s.manifest a p.edges)
+  pub fits : FitsPart (expect_in s a) (part_of s.manifest a p.edges)
   pub told : IsTold s.manifest a p.edges
 
 -- the mark is the least of the ordered pairs among partitions i and j of which an edge leads from the one to the other, as the manifest tells
@@ -48,8 +48,8 @@ ArePairIn s low high p (Some q) = (low < high) × IsPartIn s low p × IsPartIn s
 
 -- and their files spell them
 abbrev pub AreSpelled : OpenStore → Contents → ℕ → ℕ → Part → Option Part → Type 0
-AreSpelled s c low high p None = Spells (c (part_file s.manifest low)) p
-AreSpelled s c low high p (Some q) = Spells (c (part_file s.manifest low)) p × Spells (c (part_file s.manifest high)) q
+AreSpelled s c low high p None = SpellsPart (c (part_file s.manifest low)) p
+AreSpelled s c low high p (Some q) = SpellsPart (c (part_file s.manifest low)) p × SpellsPart (c (part_file s.manifest high)) q
 
 abbrev pub IfHigh : Option Part → (Part → Type 0) → Type 0
 IfHigh None P = Unit {0}
@@ -138,24 +138,24 @@ pub record TakesOn (round a : ℕ) (edges : List Born) (before after : Manifest)
 -- and on the disk its file spells it, and no other partition's file changes
 pub record Puts (m : Manifest) (a : ℕ) (p : Part) (before after : Manifest) (old new : Contents) : Type 0 where
   pub spares : Spares m old new
-  pub spelled : Spells (new (part_file after a)) p
+  pub spelled : SpellsPart (new (part_file after a)) p
   pub others : (x : ℕ) → x < length before.parts → x ≢ a → new (part_file before x) ≡ old (part_file before x)
 
 -- the partition may be put: it is one of the store's intervals, and where no edge of it is new, the manifest that
 -- is made tells of it already and its file spells it
-pub record MayPut (s : OpenStore) (tells : Bool) (c : Contents) (a : ℕ) (p : Part) (next : Manifest) : Type 0 where
+pub record MayPutPart (s : OpenStore) (tells : Bool) (c : Contents) (a : ℕ) (p : Part) (next : Manifest) : Type 0 where
   pub there : a < length next.parts
   pub part_is : p ≡ part_of s.manifest a p.edges
   pub ends : ends_of next ≡ ends_of s.manifest
   pub well : IsWell next
   pub older : newest_of next.marks a < s.manifest.round
   pub told : All (λ b. b.birth < s.manifest.round) p.edges → IsTold next a p.edges
-  pub same : IsTrue tells → All (λ b. b.birth < s.manifest.round) p.edges → Spells (c (part_file next a)) p
+  pub same : IsTrue tells → All (λ b. b.birth < s.manifest.round) p.edges → SpellsPart (c (part_file next a)) p
 
 -- the one partition may be put, or both
 abbrev pub MayPutPair : OpenStore → Bool → Contents → ℕ → ℕ → Part → Option Part → Manifest → Type 0
-MayPutPair s tells c low high p None next = MayPut s tells c low p next
-MayPutPair s tells c low high p (Some q) next = (low < high) × MayPut s tells c low p next × MayPut s tells c high q next
+MayPutPair s tells c low high p None next = MayPutPart s tells c low p next
+MayPutPair s tells c low high p (Some q) next = (low < high) × MayPutPart s tells c low p next × MayPutPart s tells c high q next
 
 -- both partitions were put, the low one first
 pub record ArePut2 (m : Manifest) (tells : Bool) (low high : ℕ) (p q : Part) (before : Manifest) (old : Contents)
@@ -177,7 +177,7 @@ abbrev pub IsOrderedPair : ℕ → ℕ → ℕ → ℕ → Type 0
 IsOrderedPair i j low high = (low ≤ high) × (((low ≡ i) × (high ≡ j)) ⊎ ((low ≡ j) × (high ≡ i)))
 
 -- the manifest after a step on partitions i and j: p and q were loaded, and became p' and q' by k rounds
-pub record IsNext (s : OpenStore) (tells : Bool) (old new : Contents) (i j : ℕ) (next : Manifest) : Type 0 where
+pub record IsNextManifest (s : OpenStore) (tells : Bool) (old new : Contents) (i j : ℕ) (next : Manifest) : Type 0 where
   pub low : ℕ
   pub high : ℕ
   pub in_order : IsOrderedPair i j low high

@@ -5,7 +5,7 @@ ghost use Rattle.store_fault.specs.Faults.{why_of};
 ghost use Rattle.graph_words.specs.declared.types.Born.{Born as ABorn};
 ghost use Rattle.disk_model.specs.View.{LeavesBy, on_disk};
 ghost use Rattle.pair_sched.specs.Marks.{newest_of};
-ghost use Rattle.closer.specs.NextManifest.{ArePut, IsWell, MayPut, MayPutPair, Puts, Replaces, Spares, TakesOn};
+ghost use Rattle.closer.specs.NextManifest.{ArePut, IsWell, MayPutPart, MayPutPair, Puts, Replaces, Spares, TakesOn};
 
 use crate::next_manifest::{file_for, with_file, with_row};
 use crate::pair::Ran;
@@ -57,7 +57,7 @@ pub(crate) fn put_changed<D: Disk>(
     i: usize,
     part: &Partition,
 ) -> Result<Manifest, StoreFault>
-    requires may { MayPut store.now D.tells (D.seen disk.old) i part.now next }
+    requires may { MayPutPart store.now D.tells (D.seen disk.old) i part.now next }
     ensures takes { IfOk result (TakesOn store.now.manifest.round i part.now.edges next) }
     ensures puts { IsTrue D.tells → IfOk result (λ after. Puts store.now.manifest i part.now next after (D.seen disk.old) (D.seen disk.new)) }
     ensures any_moment { LeavesBy D.Disk disk.old disk.new (Spares store.now.manifest) }

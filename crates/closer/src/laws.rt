@@ -8,7 +8,7 @@ ghost use Rattle.store_law.specs.Listed.{state_in};
 ghost use Rattle.store_law.specs.Left.{IsLeft, IsOfTexts, IsStore, IsStoreOf};
 ghost use Rattle.open_store.specs.Copy.{IsCopyRead};
 ghost use Rattle.open_store.specs.Store.{OpenStore};
-ghost use Rattle.closer.specs.Continuation.{AfterSteps, Continues, GoesOn, Retains};
+ghost use Rattle.closer.specs.Continuation.{AfterSteps, Continues, ImageGoesOn, Retains};
 
 /// A store of two texts is one still after steps of its closing.
 pub fn steps_keep_a_store()
@@ -22,7 +22,7 @@ pub fn stops_leave_a_store()
     ensures kept { (t : Texts) (d c : Contents) (m : AManifest) (parts : List (List ABorn)) → IsStore t d m parts
         → Retains m d c → IsStore t c m parts }
     ensures further { (t : Texts) (seen c : Contents) (m : AManifest) (parts : List (List ABorn))
-        → IsStoreOf t seen m parts → GoesOn (normal t) seen m c → IsLeft t c }
+        → IsStoreOf t seen m parts → ImageGoesOn (normal t) seen m c → IsLeft t c }
 {}
 
 /// A store of two texts that is held has the rules that the grammar's text says.

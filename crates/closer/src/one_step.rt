@@ -6,9 +6,9 @@ ghost use Rattle.disk_model.specs.Disk.{Contents};
 ghost use Rattle.disk_model.specs.View.{LeavesBy, on_disk};
 ghost use Rattle.dest_map.specs.Table.{counts_of};
 ghost use Rattle.open_store.specs.Store.{IsHeldAlone};
-ghost use Rattle.store_law.specs.Left.{IsDone};
+ghost use Rattle.store_law.specs.Left.{HasNoWork};
 ghost use Rattle.closer.specs.Answers.{BlamesPicked, IfAgain, IfFinished, IsStepped, Moves};
-ghost use Rattle.closer.specs.NextManifest.{BlamesPair, IsNext, IsOrderedPair, Spares};
+ghost use Rattle.closer.specs.NextManifest.{BlamesPair, IsNextManifest, IsOrderedPair, Spares};
 
 use crate::changed_parts::put_pair;
 use crate::next_manifest::marked;
@@ -47,7 +47,7 @@ fn close_pair<D: Disk>(
     requires i { i < length store.now.manifest.parts }
     requires j { j < length store.now.manifest.parts }
     requires some { 0 < counts_of store.now.manifest.map i j }
-    ensures next { IfOk result (IsNext store.now D.tells (D.seen disk.old) (D.seen disk.new) i j) }
+    ensures next { IfOk result (IsNextManifest store.now D.tells (D.seen disk.old) (D.seen disk.new) i j) }
     ensures any_moment { LeavesBy D.Disk disk.old disk.new (Spares store.now.manifest) }
     ensures later { D.faults disk.old ≤ D.faults disk.new }
     ensures cause { HasReason why_of (on_disk D.Disk disk.old disk.new
@@ -85,7 +85,7 @@ pub fn step<D: Disk>(
     _options: &RunOptions,
 ) -> Result<Stepped, StoreFault>
     requires held { (c : Contents) → D.may_leave disk.old c → IsHeldAlone store c }
-    ensures finished { IfOk result (λ r. IfFinished r (λ s. (s ≡ store) × IsDone store.manifest × (disk.new ≡ disk.old))) }
+    ensures finished { IfOk result (λ r. IfFinished r (λ s. (s ≡ store) × HasNoWork store.manifest × (disk.new ≡ disk.old))) }
     ensures again { IfOk result (λ r. IfAgain r (IsStepped D.tells (D.seen disk.old) store (D.seen disk.new) (D.may_leave disk.new))) }
     ensures any_moment { LeavesBy D.Disk disk.old disk.new (Moves store (D.seen disk.old)) }
     ensures later { D.faults disk.old ≤ D.faults disk.new }

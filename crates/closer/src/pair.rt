@@ -6,7 +6,7 @@ ghost use Rattle.disk_model.specs.View.{OnlyLooks, on_disk};
 ghost use Rattle.normal_law.specs.NormalForm.{normal_form};
 ghost use Rattle.dest_map.specs.Table.{counts_of};
 ghost use Rattle.pair_sched.specs.Marks.{joined_of};
-ghost use Rattle.manifest_codec.specs.Spelling.{Fits};
+ghost use Rattle.manifest_codec.specs.Spelling.{FitsManifest};
 ghost use Rattle.partition_file.specs.Spelling.{IsPart};
 ghost use Rattle.superstep.specs.Ends.{is_closed, rounds_of};
 ghost use Rattle.closer.specs.NextManifest.{ArePairIn, AreRun, AreSpelled, BlamesPair, IfHigh, IsLeastMarkIn};
@@ -55,7 +55,7 @@ pub(crate) fn load_pair<D: Disk>(
 // The lower one of a mark so far and that of partitions `i` and `j`, where an edge leads from the one
 // to the other.
 fn lower(manifest: &Manifest, i: usize, j: usize, least: u64) -> u64
-    requires fits { Fits manifest.now }
+    requires fits { FitsManifest manifest.now }
     requires i { i < length manifest.now.parts }
     requires j { j < length manifest.now.parts }
     ensures least { result ≤ least }
@@ -71,7 +71,7 @@ fn lower(manifest: &Manifest, i: usize, j: usize, least: u64) -> u64
 /// The least mark of the ordered pairs among partitions `i` and `j` that have an edge. What is born
 /// below it is joined.
 pub(crate) fn least_mark(manifest: &Manifest, i: usize, j: usize) -> u64
-    requires fits { Fits manifest.now }
+    requires fits { FitsManifest manifest.now }
     requires i { i < length manifest.now.parts }
     requires j { j < length manifest.now.parts }
     requires some { 0 < counts_of manifest.now.map i j }

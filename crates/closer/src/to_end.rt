@@ -4,9 +4,9 @@ ghost use Rattle.faults.specs.Reasons.{HasReason};
 ghost use Rattle.store_fault.specs.Faults.{why_of};
 ghost use Rattle.disk_model.specs.Disk.{Contents};
 ghost use Rattle.disk_model.specs.View.{LeavesBy, on_disk};
-ghost use Rattle.store_law.specs.Left.{IsDone};
+ghost use Rattle.store_law.specs.Left.{HasNoWork};
 ghost use Rattle.open_store.specs.Store.{IsHeldAlone};
-ghost use Rattle.closer.specs.Answers.{BlamesOnTheWay, IsClosed, Moves};
+ghost use Rattle.closer.specs.Answers.{BlamesOnTheWay, IsClosedStore, Moves};
 
 use crate::one_step::{Stepped, step};
 use closing_options::RunOptions;
@@ -28,8 +28,8 @@ pub fn run_to_end<D: Disk>(
     options: &RunOptions,
 ) -> Result<Store, StoreFault>
     requires held { (c : Contents) → D.may_leave disk.old c → IsHeldAlone store c }
-    ensures closed { IfOk result (IsClosed D.tells (D.seen disk.old) (D.may_leave disk.old) store (D.seen disk.new) (D.may_leave disk.new)) }
-    ensures rest { IsDone store.manifest → IfOk result (λ s. (s ≡ store) × (disk.new ≡ disk.old)) }
+    ensures closed { IfOk result (IsClosedStore D.tells (D.seen disk.old) (D.may_leave disk.old) store (D.seen disk.new) (D.may_leave disk.new)) }
+    ensures rest { HasNoWork store.manifest → IfOk result (λ s. (s ≡ store) × (disk.new ≡ disk.old)) }
     ensures any_moment { LeavesBy D.Disk disk.old disk.new (Moves store (D.seen disk.old)) }
     ensures later { D.faults disk.old ≤ D.faults disk.new }
     ensures cause { HasReason why_of (on_disk D.Disk disk.old disk.new

@@ -12,10 +12,10 @@ use Rattle.graph_words.specs.Reach.{Graph, edge, Reach}
 use Rattle.graph_words.proofs.ReachLaws.{Reach-start}
 use Rattle.normal_law.specs.Closure.{Normal, IsLabelOf, Closure, given, loop as at_each, joined}
 use Rattle.normal_law.proofs.Complete.{Closure-from_reach}
-use Rattle.closing_machine.specs.State.{State, IsCut, place, part, count, newest, greatest_birth, IsFinished}
+use Rattle.closing_machine.specs.State.{State, EndsCut, place, part, count, newest, greatest_birth, IsFinished}
 use Rattle.closing_machine.specs.Rounds.{born, HasEdge}
 use Rattle.closing_machine.specs.Machine.{input, loop}
-use Rattle.closing_machine.specs.Holds.{IsTask, Holds, mark}
+use Rattle.closing_machine.specs.Holds.{IsTask, IsClosingState, mark}
 use Rattle.closing_machine.proofs.Members.{either, Contains-filter}
 use Rattle.closing_machine.proofs.Reached.{Reaches}
 use Rattle.closing_machine.proofs.Superstepping.{count_from_join, same_number}
@@ -30,7 +30,7 @@ newest_bounds s b m =
     (Contains-filter (λ (x : Born). part s.ends x == part s.ends b) s.edges b m (same_number (part s.ends b)))
 
 -- a vertex below the last end lies in an interval
-pub place_below : (ends : List ℕ) (from to v : ℕ) → IsCut from ends to → from ≤ v → v < to → place ends v < length ends
+pub place_below : (ends : List ℕ) (from to v : ℕ) → EndsCut from ends to → from ≤ v → v < to → place ends v < length ends
 place_below [] from to v is le lt = absurd (let e : from ≡ to = is in omega arith)
 place_below (e ∷ es) from to v is le lt = either (λ h. rw (test v e h) (omega arith)) (λ h. rw (fails v e h) (let r = place_below es e to v is.1 h lt in omega arith)) (cases_lt v e)
   where
@@ -40,7 +40,7 @@ place_below (e ∷ es) from to v is le lt = either (λ h. rw (test v e h) (omega
     fails : (v e : ℕ) → e ≤ v → nat_lt v e ≡ false
     fails v e h = grind (arith, nat_tests)
 
-module _ (n : Normal) (g : Graph) (s : State) (task : IsTask n g) (h : Holds n g s) (finished : IsFinished s) where
+module _ (n : Normal) (g : Graph) (s : State) (task : IsTask n g) (h : IsClosingState n g s) (finished : IsFinished s) where
   reaches : (b : Born) → Contains s.edges b → Reaches n g b.edge
   reaches b m = All-contains (λ (b : Born). Reaches n g b.edge) s.edges b h.reached m
 

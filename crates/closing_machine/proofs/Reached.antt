@@ -8,7 +8,7 @@ use Rattle.graph_words.specs.declared.types.Edge.{Edge}
 use Rattle.graph_words.specs.Reach.{Graph, edge, rule, Reach}
 use Rattle.graph_words.proofs.ReachLaws.{Reach-append}
 use Rattle.graph_words.specs.declared.types.PairRule.{PairRule}
-use Rattle.normal_law.specs.Closure.{Normal, IsNamed, IsFresh, IsLabelOf, IsUp, itself, above, HasNamedLabels, IsNormalForm, Closure, given, loop as at_each}
+use Rattle.normal_law.specs.Closure.{Normal, IsNamed, IsFreshLabel, IsLabelOf, IsUp, itself, above, HasNamedLabels, IsNormalForm, Closure, given, loop as at_each}
 use Rattle.normal_law.proofs.Sound.{left_is_named, pair_reached, up_reached, Closure-reached}
 use Rattle.closing_machine.specs.Rounds.{IsJoin}
 use Rattle.closing_machine.specs.Machine.{IsGiven, input, loop}
@@ -42,7 +42,7 @@ up_known n named (above {a = a} c up m) known = inl (left_is_named n.rules a (c 
 pair_known : (n : Normal) (p : PairRule) → IsNormalForm n → Contains n.pairs p → IsLabelOf n p.left
 pair_known n p normal m = go (normal.only p m)
   where
-    go : ((IsNamed p.left × Contains n.rules (rule p.left (n.stands p.first ++ n.stands p.second))) ⊎ (IsFresh n p.left × (n.stands p.left ≡ n.stands p.first ++ n.stands p.second))) → IsLabelOf n p.left
+    go : ((IsNamed p.left × Contains n.rules (rule p.left (n.stands p.first ++ n.stands p.second))) ⊎ (IsFreshLabel n p.left × (n.stands p.left ≡ n.stands p.first ++ n.stands p.second))) → IsLabelOf n p.left
     go (inl h) = inl h.0
     go (inr h) = inr h.0
 

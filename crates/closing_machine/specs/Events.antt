@@ -5,7 +5,7 @@ use Rattle.normal_law.specs.Closure.{Normal}
 use Rattle.closing_machine.specs.State.{State}
 use Rattle.closing_machine.specs.Machine.{IsSuperstep, IsSplit}
 use Rattle.closing_machine.specs.Add.{IsAdd}
-use Rattle.closing_machine.specs.Holds.{Holds, IsTask}
+use Rattle.closing_machine.specs.Holds.{IsClosingState, IsTask}
 
 -- a state, and the graph of which it is one
 pub record Closing : Type 0 where
@@ -15,7 +15,7 @@ pub record Closing : Type 0 where
 -- it is of a task, and holds
 pub record IsSound (n : Normal) (c : Closing) : Type 0 where
   pub task : IsTask n c.graph
-  pub holds : Holds n c.graph c.state
+  pub holds : IsClosingState n c.graph c.state
 
 -- what may happen
 pub data Event : Type 0 where

@@ -1,13 +1,13 @@
 -- The words are cut by the relation as the code cuts them.
 use Rattle.std.proofs.Common.{◌≡◌, ◌≢◌, ℕ, Bool, true, false, List, [], ◌∷◌, ◌++◌, Option, Some, None, codes, cond, Contains, option_map, unwrap_or, subst, ap, refl, sym, ◌∙◌}
-use Rattle.command_words.specs.Words.{Given, given, is_dashed, Cuts}
+use Rattle.command_words.specs.Words.{GivenOption, given, is_dashed, Cuts}
 use Rattle.command_words.specs.Words as words
 use Rattle.command_words.specs.CutWords.{Cut, Kind, Next, any, value_for, only_plain, kind_of, kind_behind, behind_dashes, with_option, with_plain, cut_kind, cut_from, nothing}
 use Rattle.command_words.specs.CutWords as kinds
 use Rattle.command_words.proofs.KindLemmas.{KindIs, kind_is, joined_is, alone_is}
 
 -- a cut
-abbrev pub cut : List Given → List (List ℕ) → Cut
+abbrev pub cut : List GivenOption → List (List ℕ) → Cut
 cut options plain = record { options = options; plain = plain }
 
 -- behind `--` each word is plain
@@ -27,7 +27,7 @@ alone_kind word name e some none = ap kind_of e ∙ ap Some (alone_is name some 
 rest_kind : (word : List ℕ) → word ≡ codes "--" → kind_of word ≡ Some kinds.rest
 rest_kind word e = ap kind_of e
 
-pub cut_of : {ws : List (List ℕ)} {options : List Given} {plain : List (List ℕ)} → Cuts ws options plain → cut_from ws any ≡ Some (cut options plain)
+pub cut_of : {ws : List (List ℕ)} {options : List GivenOption} {plain : List (List ℕ)} → Cuts ws options plain → cut_from ws any ≡ Some (cut options plain)
 cut_of words.none = refl
 cut_of (words.plain {word = w} {words = ws} dashed more) = ap (λ k. cut_kind w k (cut_from ws)) (plain_kind w dashed) ∙ ap (with_plain w) (cut_of more)
 cut_of (words.joined {word = w} {words = ws} name value is none more) = ap (λ k. cut_kind w k (cut_from ws)) (joined_kind w name value is none) ∙ ap (with_option name value) (cut_of more)
@@ -40,7 +40,7 @@ cut_of (words.rest {word = w} {words = ws} is) = ap (λ k. cut_kind w k (cut_fro
 record IsValue (ws : List (List ℕ)) (name : List ℕ) (c : Cut) : Type 0 where
   value : List ℕ
   others : List (List ℕ)
-  options : List Given
+  options : List GivenOption
   words_are : ws ≡ value ∷ others
   dashed : is_dashed value ≡ false
   options_are : c.options ≡ given name value ∷ options

@@ -1,7 +1,7 @@
 -- Words have at most one reading, which is that of their cut.
 use Rattle.std.proofs.Common.{◌≡◌, ◌≤◌, ◌<◌, ℕ, List, [], ◌∷◌, Option, Some, None, All, length, drop, slice_index_or, codes, unwrap_or, arith, ap, subst, refl, sym, ◌∙◌}
 use Rattle.std.specs.Str.Parse.{digits_value}
-use Rattle.command_words.specs.Words.{Given}
+use Rattle.command_words.specs.Words.{GivenOption}
 use Rattle.command_words.specs.Command.{Said, run, query, emit, dump, parts, Says, kind_word, Reading, IsDestination, AreNumbers, IsNumberOr, AreWithin, RunsWithin, value_of}
 use Rattle.command_words.specs.CutWords.{Cut, any, cut_from}
 use Rattle.closing_options.specs.declared.RunOptions.{RunOptions}
@@ -42,14 +42,14 @@ number_within : (default least most : ℕ) (word : Option (List ℕ)) (n : ℕ) 
 number_within default least most None n low high is = (rw is low, rw is high)
 number_within default least most (Some word) n low high is = (is.not_less, is.not_more)
 
-numbers_within : (options : List Given) (n : RunOptions) → AreNumbers options n → AreWithin n
+numbers_within : (options : List GivenOption) (n : RunOptions) → AreNumbers options n → AreWithin n
 numbers_within options n are =
     let workers = number_within 4 1 64 (value_of (codes "workers") options) n.workers (omega arith) (omega arith) are.workers_is in
     let edges = number_within 1000000 1 4294967295 (value_of (codes "part-edges") options) n.part_edges (omega arith) (omega arith) are.part_edges_is in
     let budget = number_within 16000000 1 4294967295 (value_of (codes "budget") options) n.budget (omega arith) (omega arith) are.budget_is in
     record { some_workers = workers.0; few_workers = workers.1; some_edges = edges.0; few_edges = edges.1; some_budget = budget.0; small_budget = budget.1 }
 
-pub runs_within : (name : List ℕ) (options : List Given) (plains : List (List ℕ)) (c : Said) → Says name options plains c → RunsWithin c
+pub runs_within : (name : List ℕ) (options : List GivenOption) (plains : List (List ℕ)) (c : Said) → Says name options plains c → RunsWithin c
 runs_within name options plains (run edges grammar numbers show) says = numbers_within options numbers says.2.numbers_are
 runs_within name options plains (query label from to) says = tt
 runs_within name options plains (emit kind source) says = tt
@@ -65,7 +65,7 @@ one_number default least most (Some word) m n a b = sym a.value ∙ b.value
 abbrev numbers : ℕ → ℕ → ℕ → RunOptions
 numbers workers part_edges budget = record { workers = workers; part_edges = part_edges; budget = budget }
 
-one_options : (options : List Given) (a b : RunOptions) → AreNumbers options a → AreNumbers options b → a ≡ b
+one_options : (options : List GivenOption) (a b : RunOptions) → AreNumbers options a → AreNumbers options b → a ≡ b
 one_options options a b m n =
     let workers = one_number 4 1 64 (value_of (codes "workers") options) a.workers b.workers m.workers_is n.workers_is in
     let edges = one_number 1000000 1 4294967295 (value_of (codes "part-edges") options) a.part_edges b.part_edges m.part_edges_is n.part_edges_is in
@@ -88,7 +88,7 @@ one_kind Null Null h = refl
 one_kind Alias Null h = absurd (let bad : 97 ≡ 110 = ap (λ l. slice_index_or l 0 0) h in omega arith)
 one_kind Null Alias h = absurd (let bad : 110 ≡ 97 = ap (λ l. slice_index_or l 0 0) h in omega arith)
 
-one_command : (name : List ℕ) (options : List Given) (plains : List (List ℕ)) (c d : Said) → Says name options plains c → Says name options plains d → c ≡ d
+one_command : (name : List ℕ) (options : List GivenOption) (plains : List (List ℕ)) (c d : Said) → Says name options plains c → Says name options plains d → c ≡ d
 one_command name options plains (run e g o s) (run e' g' o' s') h k =
     let p = sym h.1 ∙ k.1 in
     let edges : e ≡ e' = ap (λ l. slice_index_or l 0 []) p in

@@ -2,7 +2,7 @@
 use Rattle.std.specs.Prelude.{◌≡◌, ◌≢◌, ℕ, ◌≤◌, List, [], ◌∷◌, Option, Some, None, IfSome, option_map, find, length, codes, All, AllPairs, Contains}
 use Rattle.std.specs.Str.Parse.{digits_value}
 use Rattle.graph_words.specs.Text.{IsDigit, IsLabel, IsVertexNumber, same_name}
-use Rattle.command_words.specs.Words.{Given, Cuts}
+use Rattle.command_words.specs.Words.{GivenOption, Cuts}
 use Rattle.closing_options.specs.declared.RunOptions.{RunOptions}
 use Rattle.command_words.specs.declared.command.GraphKind.{GraphKind}
 use Rattle.command_words.specs.declared.command.GraphKind.TheVariants.{Alias, Null}
@@ -25,12 +25,12 @@ abbrev pub run_options : List (List ℕ)
 run_options = codes "workers" ∷ codes "part-edges" ∷ codes "budget" ∷ codes "show" ∷ []
 
 -- each option that is given has one of these names, and none is given twice
-pub record AreOptions (names : List (List ℕ)) (options : List Given) : Type 0 where
+pub record AreOptions (names : List (List ℕ)) (options : List GivenOption) : Type 0 where
   pub known : All (λ o. Contains names o.name) options
   pub once : AllPairs (λ o p. o.name ≢ p.name) options
 
 -- the value of the option with this name, where it is given
-abbrev pub value_of : List ℕ → List Given → Option (List ℕ)
+abbrev pub value_of : List ℕ → List GivenOption → Option (List ℕ)
 value_of name options = option_map (λ o. o.value) (find (λ o. same_name o.name name) options)
 
 -- the word writes the number in decimal digits, which may begin with zeros, and it is one from least to most
@@ -53,11 +53,11 @@ pub record GiveNumbers (workers part_edges budget : Option (List ℕ)) (numbers 
   pub budget_is : IsNumberOr 16000000 1 4294967295 budget numbers.budget
 
 -- the numbers of a run with these options
-abbrev pub AreNumbers : List Given → RunOptions → Type 0
+abbrev pub AreNumbers : List GivenOption → RunOptions → Type 0
 AreNumbers options = GiveNumbers (value_of (codes "workers") options) (value_of (codes "part-edges") options) (value_of (codes "budget") options)
 
 -- what the options of a run give
-pub record IsRun (options : List Given) (numbers : RunOptions) (show : Option (List ℕ)) : Type 0 where
+pub record IsRun (options : List GivenOption) (numbers : RunOptions) (show : Option (List ℕ)) : Type 0 where
   pub options_are : AreOptions run_options options
   pub numbers_are : AreNumbers options numbers
   pub show_is : value_of (codes "show") options ≡ show
@@ -85,7 +85,7 @@ kind_word Null = codes "null"
 
 -- what the name of a command says with these options and these plain words: `run EDGES GRAMMAR` with options of a run,
 -- `query LABEL U [V]`, `emit KIND SOURCE`, `dump` or `parts`
-abbrev pub Says : List ℕ → List Given → List (List ℕ) → Said → Type 0
+abbrev pub Says : List ℕ → List GivenOption → List (List ℕ) → Said → Type 0
 Says name options plains (run edges grammar numbers show) = (name ≡ codes "run") × (plains ≡ edges ∷ grammar ∷ []) × IsRun options numbers show
 Says name options plains (query label from to) = (name ≡ codes "query") × (options ≡ []) × IsQuery plains label from to
 Says name options plains (emit kind source) = (name ≡ codes "emit") × (options ≡ []) × (plains ≡ kind_word kind ∷ source ∷ [])
@@ -98,7 +98,7 @@ pub record Reading (words : List (List ℕ)) (command : Said) : Type 0 where
   pub others : List (List ℕ)
   pub first : words ≡ name ∷ others
   pub full : All (λ word. 1 ≤ length word) words
-  pub options : List Given
+  pub options : List GivenOption
   pub plains : List (List ℕ)
   pub cut : Cuts others options plains
   pub says : Says name options plains command

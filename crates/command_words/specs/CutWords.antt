@@ -1,7 +1,7 @@
 -- How words are cut, as the code walks over them.
 use Rattle.std.specs.Prelude.{ℕ, ◌==◌, List, [], ◌∷◌, ◌++◌, Option, Some, None, if◌then◌else◌, option_map, option_and_then, nat_lt, length}
 use Rattle.std.specs.List.{before_first, after_first, position_or_len}
-use Rattle.command_words.specs.Words.{Given, given, is_dashed}
+use Rattle.command_words.specs.Words.{GivenOption, given, is_dashed}
 use Rattle.command_words.specs.declared.kind.WordKind as kinds
 use Rattle.command_words.specs.declared.kind.WordKind.TheVariants as variants
 use Rattle.command_words.specs.declared.cut_words.Given as givens
@@ -10,7 +10,7 @@ use Rattle.command_words.specs.declared.cut_words.Next.TheVariants as next_varia
 
 -- options and plain words
 pub record Cut : Type 0 where
-  pub options : List Given
+  pub options : List GivenOption
   pub plain : List (List ℕ)
 
 abbrev pub nothing : Cut
@@ -104,7 +104,7 @@ kind_said (variants.Joined name value) = joined name.now value.now
 kind_said (variants.Alone name) = alone name.now
 
 -- an option as the code has it
-abbrev pub given_said : givens.Given → Given
+abbrev pub given_said : givens.GivenOption → GivenOption
 given_said o = given o.name.now o.value.now
 
 abbrev pub next_said : nexts.Next → Next

@@ -4,11 +4,11 @@ use Rattle.std.proofs.lemmas.Bool.{cases_lt}
 use Rattle.disk_model.specs.Disk.{Contents, written, Torn, Shortened}
 use Rattle.disk_model.specs.Calls.{Call, write, cut, sync, FileState, States, synced, synced_all, after_write, after_cut, at_file, after, replay, IsFileImage, IsImage, contents}
 use Rattle.disk_model.specs.Allowed.{seen_after, allowed_after, allowed, SameImages}
-use Rattle.disk_model.specs.Sound.{IsSound, AllSound, sound_after, sound_synced_all, length-written, written-lengths, touched-push, at_file-each, at_file-seen, synced_image}
+use Rattle.disk_model.specs.Sound.{IsSoundFile, AllSound, sound_after, sound_synced_all, length-written, written-lengths, touched-push, at_file-each, at_file-seen, synced_image}
 use Rattle.disk_model.proofs.Follows.{write_follows, cut_follows, sync_leaves_just, sync_no_more}
 
 -- a torn write of an image is an image after the write
-torn_image : (at : ℕ) (bytes : List ℕ) (made : Bool) (s : FileState) → IsSound s → (d c : List ℕ) → IsFileImage s d → Torn at (length bytes) d c → IsFileImage (after_write at bytes made s) c
+torn_image : (at : ℕ) (bytes : List ℕ) (made : Bool) (s : FileState) → IsSoundFile s → (d c : List ℕ) → IsFileImage s d → Torn at (length bytes) d c → IsFileImage (after_write at bytes made s) c
 torn_image at bytes made s sound d c image torn =
     let lens = written-lengths s.seen at bytes in
     record {
@@ -25,7 +25,7 @@ torn_image at bytes made s sound d c image torn =
     }
 
 -- a cut of an image that stopped anywhere is an image after the cut
-shortened_image : (len : ℕ) (made : Bool) (s : FileState) → IsSound s → (d c : List ℕ) → IsFileImage s d → Shortened len d c → IsFileImage (after_cut len made s) c
+shortened_image : (len : ℕ) (made : Bool) (s : FileState) → IsSoundFile s → (d c : List ℕ) → IsFileImage s d → Shortened len d c → IsFileImage (after_cut len made s) c
 shortened_image len made s sound d c image short =
     record {
       no_shorter = omega (arith, image.no_shorter, short.no_shorter, sound.keep_seen, length-take len s.seen);

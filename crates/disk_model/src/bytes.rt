@@ -1,6 +1,6 @@
 //! Copies of bytes, and a write over them.
 ghost use Rattle.std.specs.Prelude.{◌≡◌, ◌<◌, ◌≤◌, ◌+◌, ◌-◌, ◌^◌, ◌++◌, ℕ, length, take, replicate, IfOk};
-ghost use Rattle.disk_model.specs.Disk.{overwritten, written, Reads};
+ghost use Rattle.disk_model.specs.Disk.{overwritten, written, ReadsBytes};
 
 use std::alloc::{AllocError, Global};
 
@@ -54,7 +54,7 @@ pub(crate) fn write_over(
 
 /// Fills a buffer with the bytes of a file from a place on, and says how many there were.
 pub(crate) fn read_into(file: &[u8], at: usize, buf: &mut [u8]) -> usize
-    ensures { Reads file.now at buf.new result }
+    ensures { ReadsBytes file.now at buf.new result }
 {
     let from = at.min(file.len());
     let rest = &file[from..];

@@ -3,8 +3,8 @@ ghost use Rattle.std.specs.Prelude.{◌≡◌, ◌<◌, ◌≤◌, ◌∷◌, []
 ghost use Rattle.std.specs.List.{position, position_or_len};
 ghost use Rattle.disk_model.specs.Calls.{touched, IsFileImage};
 ghost use Rattle.disk_model.specs.Memory.{file_state, is_of};
-ghost use Rattle.disk_model.specs.Sound.{IsSound};
-ghost use Rattle.disk_model.specs.Left.{IsLeft};
+ghost use Rattle.disk_model.specs.Sound.{IsSoundFile};
+ghost use Rattle.disk_model.specs.Left.{CrashLeaves};
 
 use crate::bytes::copy;
 use crate::crash_choice::CrashChoice;
@@ -118,7 +118,7 @@ impl Loose {
 
     // The bytes that a crash leaves: each free length and byte is drawn.
     fn drawn(&self, alloc: Global, seen: &[u8], draw: &mut u64) -> Result<Vec<u8>, AllocError>
-        requires { IsSound (file_state seen.now (Some self.now)) }
+        requires { IsSoundFile (file_state seen.now (Some self.now)) }
         ensures { IfOk result (λ v. IsFileImage (file_state seen.now (Some self.now)) v.items) }
     {
         *draw = next_number(*draw);
@@ -133,7 +133,7 @@ impl Loose {
     }
 
     /// The bytes that a crash leaves of the file, where a read gives `seen`.
-    #[tactic(auto, unfolding(crate::specs::Left::IsLeft))]
+    #[tactic(auto, unfolding(crate::specs::Left::CrashLeaves))]
     pub fn left(
         &self,
         alloc: Global,
@@ -141,8 +141,8 @@ impl Loose {
         choice: CrashChoice,
         draw: &mut u64,
     ) -> Result<Vec<u8>, AllocError>
-        requires { IsSound (file_state seen.now (Some self.now)) }
-        ensures { IfOk result (λ v. IsLeft choice (file_state seen.now (Some self.now)) v.items) }
+        requires { IsSoundFile (file_state seen.now (Some self.now)) }
+        ensures { IfOk result (λ v. CrashLeaves choice (file_state seen.now (Some self.now)) v.items) }
     {
         match choice {
             CrashChoice::AsRead => copy(alloc, seen),

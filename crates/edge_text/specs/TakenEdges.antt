@@ -5,7 +5,7 @@ use Rattle.faults.specs.declared.kinds.InputKind.{InputKind}
 use Rattle.faults.specs.declared.kinds.InputKind.TheVariants.{WrongCount, BadSource, BadDestination, BadLabel, TooManyLabels}
 use Rattle.edge_text.specs.declared.edge.EdgeFault.{EdgeFault}
 use Rattle.edge_text.specs.declared.edge.EdgeFault.TheVariants as faults
-use Rattle.edge_text.specs.Reads.{HasFault}
+use Rattle.edge_text.specs.Reads.{HasLineFault}
 use Rattle.edge_text.specs.EdgesText.{IsEdgeOf}
 
 -- the kind of a line's fault
@@ -33,5 +33,5 @@ TakesEdgeLine line edges table edges' table' =
 -- the line has this fault: of its words, or by its label
 abbrev pub RefusesEdgeLine : List ℕ → List (List ℕ) → InputKind → Type 0
 RefusesEdgeLine line table kind =
-    ((fault : EdgeFault) × HasFault line fault × (kind ≡ kind_of fault))
+    ((fault : EdgeFault) × HasLineFault line fault × (kind ≡ kind_of fault))
     ⊎ ((src dst : ℕ) × (label : List ℕ) × IsEdgeLine line src dst label × (kind ≡ TooManyLabels) × (1000 < length (with_name table label)))

@@ -16,7 +16,7 @@ use Rattle.graph_emit.specs.declared.fault.EmitKind.{EmitKind}
 use Rattle.graph_emit.specs.declared.fault.EmitFault.{EmitFault}
 use Rattle.graph_emit.specs.declared.fault.EmitFault.TheVariants as fault
 use Rattle.graph_emit.specs.State.{State, Walk, done, ◌⟫◌, refuse, fresh, join, Target, Setting}
-use Rattle.graph_emit.specs.Answers.{Gives, Refuses}
+use Rattle.graph_emit.specs.Answers.{WalkGives, StepRefuses}
 use Rattle.graph_emit.specs.Functions.{bound, target}
 use Rattle.graph_emit.specs.Walk.{arg_flows, args_flow, given, goes_to, expr_walk}
 use Rattle.graph_emit.specs.Program.{Known, known_as, known_or, setting}
@@ -28,10 +28,10 @@ none_is None other = refl
 none_is (Some x) other = absurd (other x refl)
 
 -- a call of a function goes there, and any other is refused
-pub goes_known : (k : EmitKind) (known : List Known) (name : Name) (t : Target) (s : State) → known_as name.bytes known ≡ Some t → Gives ((setting k known).goes name) s t s
+pub goes_known : (k : EmitKind) (known : List Known) (name : Name) (t : Target) (s : State) → known_as name.bytes known ≡ Some t → WalkGives ((setting k known).goes name) s t s
 goes_known k known name t s is = record { walked = ap (λ o. known_or o name s) is; around = refl }
 
-pub goes_unknown : (k : EmitKind) (known : List Known) (name : Name) (s : State) (e : EmitFault) → known_as name.bytes known ≡ None → e ≡ fault.At name.tok.line input.Undeclared → Refuses ((setting k known).goes name) s e
+pub goes_unknown : (k : EmitKind) (known : List Known) (name : Name) (s : State) (e : EmitFault) → known_as name.bytes known ≡ None → e ≡ fault.At name.tok.line input.Undeclared → StepRefuses ((setting k known).goes name) s e
 goes_unknown k known name s e is fault_is = inr (ap (λ o. known_or o name s) is ∙ ap Err (sym fault_is))
 
 -- what a function gives, by the bytes of its name

@@ -20,7 +20,7 @@ use Rattle.graph_emit.specs.declared.emitter.Spot.{Spot}
 use Rattle.graph_emit.specs.declared.fault.EmitFault.{EmitFault}
 use Rattle.graph_emit.specs.declared.fault.EmitFault.TheVariants as fault
 use Rattle.graph_emit.specs.State.{State, Walk, done, and_then, ◌⟫◌, fresh, with_vertex, join, is_deref_of, is_address_of, place_of, deref_or_new, deref_of, address_or_new, address_of, bind, declare}
-use Rattle.graph_emit.specs.Answers.{Gives, Answers, made, IsIndexed}
+use Rattle.graph_emit.specs.Answers.{WalkGives, Answers, made, IsIndexed}
 use Rattle.graph_emit.proofs.Steps.{answer_ok, GoesOn, goes, goes_by, stops_by, ends_done, pair_of}
 use Rattle.graph_emit.proofs.Index.{indexed_plain}
 
@@ -58,7 +58,7 @@ unfolding ◌⟫◌
 address_full s tok v none full = ap (λ o. address_or_new o tok v s) none ∙ ap (λ r. and_then r (λ t. join t label.D v ⟫ λ _. done t)) (fresh_full tok (form.Address v) [] s full)
 
 -- a new vertex that the code has added
-fresh_given : (tok : Tok) (f : VertexForm) (s t : State) (n : ℕ) → length s.vertices < MOST_VERTICES → n ≡ length s.vertices → with_vertex f [] tok.number s ≡ t → Gives (fresh tok f []) s n t
+fresh_given : (tok : Tok) (f : VertexForm) (s t : State) (n : ℕ) → length s.vertices < MOST_VERTICES → n ≡ length s.vertices → with_vertex f [] tok.number s ≡ t → WalkGives (fresh tok f []) s n t
 fresh_given tok f s t n room e is = record {
   walked = fresh_room tok f [] s room ∙ ap (λ t. Ok (t, length s.vertices)) is ∙ ap (λ n. Ok (t, n)) (sym e);
   around = ap (λ (t : State). t.outer) (sym is);

@@ -29,7 +29,7 @@ use Rattle.visible_names.specs.Names.{Bound, bound_to}
 use Rattle.graph_emit.specs.declared.fault.EmitKind.{EmitKind}
 use Rattle.graph_emit.specs.State.{Made, State, done, ◌⟫◌, refuse, fresh, flow, declare, Target, Setting}
 use Rattle.graph_emit.specs.Walk.{expr_walk, place_walk, call_walk, initial, var_walk, vars_walk, in_order, returned, stmt_walk, body_walk}
-use Rattle.graph_emit.specs.Program.{Known, known_as, param_made, params_made, gives_nothing, return_made, target_made, function_made, item_made, functions_made, known_or, setting, item_walk, items_walk, program_walk, blank, graph_of, shown, listed, IsGraph}
+use Rattle.graph_emit.specs.Program.{Known, known_as, param_made, params_made, gives_nothing, return_made, target_made, function_made, item_made, functions_made, known_or, setting, item_walk, items_walk, program_walk, blank, graph_of, shown, listed, IsProgramGraph}
 use Rattle.graph_emit.specs.Names.{var_names, stmt_names, block_names, param_names, function_names, item_names, declared_names, IsNamedBy}
 use Rattle.graph_emit.proofs.Forms.{Has, has_within, Grows, grows_none, grows_then}
 use Rattle.graph_emit.proofs.Kept.{Kept, kept_none}
@@ -291,10 +291,10 @@ listed_kept s k =
 pub graph_kept : (k : EmitKind) (p : Program) (t : State) → graph_of k p ≡ Ok (t, tt) → IsGraphOfProgram (listed t)
 graph_kept k p t e = listed_kept t (program_left k p.items t e).kept
 
-pub graph_keeps_rules : (k : EmitKind) (p : Program) (list : Listed) → IsGraph k p list → IsGraphOfProgram list
+pub graph_keeps_rules : (k : EmitKind) (p : Program) (list : Listed) → IsProgramGraph k p list → IsGraphOfProgram list
 graph_keeps_rules k p list g = subst IsGraphOfProgram (sym g.same) (graph_kept k p g.state g.walked)
 
-pub graph_is_named : (k : EmitKind) (p : Program) (list : Listed) → IsGraph k p list → All (IsNamedBy (declared_names p.items)) list.vertices
+pub graph_is_named : (k : EmitKind) (p : Program) (list : Listed) → IsProgramGraph k p list → All (IsNamedBy (declared_names p.items)) list.vertices
 graph_is_named k p list g =
     let names = declared_names p.items in
     subst (λ (l : Listed). All (IsNamedBy names) l.vertices) (sym g.same)

@@ -5,7 +5,7 @@ use Rattle.std.proofs.Math.Seq.{take-append_seam, drop-append_seam}
 use Rattle.visible_names.specs.Names.{Bound}
 use Rattle.graph_emit.specs.declared.fault.EmitFault.{EmitFault}
 use Rattle.graph_emit.specs.State.{State, Walk, closed, opened, scoped}
-use Rattle.graph_emit.specs.Answers.{Refuses, Answers}
+use Rattle.graph_emit.specs.Answers.{StepRefuses, Answers}
 use Rattle.graph_emit.proofs.Steps.{given, refused, answer_ok, answer_err, state_is}
 
 first_part : (a b c d : List Bound) → a ++ b ≡ c ++ d → length b ≡ length d → a ≡ c
@@ -41,15 +41,15 @@ scope_ends {w = w} names before start inside after a is h c =
       around = second_part after.inner after.outer before.inner before.outer (c.names ∙ o) c.around;
     })
 
-closed_refuses : {A : Type 0} (w : Walk A) (names : List Bound) (before : State) (e : EmitFault) → Refuses w (opened names before) e → Refuses (scoped names w) before e
+closed_refuses : {A : Type 0} (w : Walk A) (names : List Bound) (before : State) (e : EmitFault) → StepRefuses w (opened names before) e → StepRefuses (scoped names w) before e
 closed_refuses w names before e (inl q) = inl q
 closed_refuses w names before e (inr q) = inr (ap (closed before) q)
 
 pub scope_stops : {A : Type 0} {w : Walk A} (names : List Bound) (before start inside after : State) (e : EmitFault) (r : Result A EmitFault) → start ≡ opened names before → Answers w start (Err e) inside → IsErrAnd r (λ x. x ≡ e) → Answers (scoped names w) before r after
 scope_stops names before start inside after e (Ok a) begins h is = absurd is
 scope_stops {w = w} names before start inside after e (Err f) begins h is =
-    let P : EmitFault → Type 0 = λ f. Refuses (scoped names w) before f in
-    let Q : State → Type 0 = λ s. Refuses w s e in
+    let P : EmitFault → Type 0 = λ f. StepRefuses (scoped names w) before f in
+    let Q : State → Type 0 = λ s. StepRefuses w s e in
     answer_err (subst P (sym is) (closed_refuses w names before e (subst Q begins (refused h))))
 
 -- inside a scope there are the names around it

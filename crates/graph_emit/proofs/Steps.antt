@@ -6,26 +6,26 @@ use Rattle.c_tree.specs.declared.tree.Tok.{Tok}
 use Rattle.graph_emit.specs.declared.fault.EmitFault.{EmitFault}
 use Rattle.graph_emit.specs.declared.fault.EmitFault.TheVariants as fault
 use Rattle.graph_emit.specs.State.{State, Walk, done, refuse, and_then, ◌⟫◌}
-use Rattle.graph_emit.specs.Answers.{Gives, Refuses, AnswersAs, Answers}
+use Rattle.graph_emit.specs.Answers.{WalkGives, StepRefuses, AnswersAs, Answers}
 
 -- ---- answers
 -- what a call gave whose answer is at hand
-pub given : {R A : Type 0} {seen : R → A} {w : Walk A} {before after : State} {a : R} → AnswersAs seen w before (Ok a) after → Gives w before (seen a) after
+pub given : {R A : Type 0} {seen : R → A} {w : Walk A} {before after : State} {a : R} → AnswersAs seen w before (Ok a) after → WalkGives w before (seen a) after
 given {a = a} h = h.gives a refl
 
-pub refused : {R A : Type 0} {seen : R → A} {w : Walk A} {before after : State} {e : EmitFault} → AnswersAs seen w before (Err e) after → Refuses w before e
+pub refused : {R A : Type 0} {seen : R → A} {w : Walk A} {before after : State} {e : EmitFault} → AnswersAs seen w before (Err e) after → StepRefuses w before e
 refused {e = e} h = h.refuses e refl
 
-pub answer_ok : {R A : Type 0} {seen : R → A} {w : Walk A} {before after : State} {a : R} → Gives w before (seen a) after → AnswersAs seen w before (Ok a) after
+pub answer_ok : {R A : Type 0} {seen : R → A} {w : Walk A} {before after : State} {a : R} → WalkGives w before (seen a) after → AnswersAs seen w before (Ok a) after
 answer_ok {seen = seen} {w = w} {before = before} {after = after} {a = a} g = record {
-  gives = λ b e. subst (λ b. Gives w before (seen b) after) (let f : a ≡ b = cc in f) g;
+  gives = λ b e. subst (λ b. WalkGives w before (seen b) after) (let f : a ≡ b = cc in f) g;
   refuses = λ e h. absurd (cc);
 }
 
-pub answer_err : {R A : Type 0} {seen : R → A} {w : Walk A} {before after : State} {e : EmitFault} → Refuses w before e → AnswersAs seen w before (Err e) after
+pub answer_err : {R A : Type 0} {seen : R → A} {w : Walk A} {before after : State} {e : EmitFault} → StepRefuses w before e → AnswersAs seen w before (Err e) after
 answer_err {w = w} {before = before} {e = e} g = record {
   gives = λ b h. absurd (cc);
-  refuses = λ f h. subst (λ f. Refuses w before f) (let same : e ≡ f = cc in same) g;
+  refuses = λ f h. subst (λ f. StepRefuses w before f) (let same : e ≡ f = cc in same) g;
 }
 
 pub no_memory : {R A : Type 0} {seen : R → A} {w : Walk A} {before after : State} (r : Result R EmitFault) → IsErrAnd r (λ e. e ≡ fault.NoMemory) → AnswersAs seen w before r after
@@ -50,7 +50,7 @@ pub goes_as : {A : Type 0} {whole rest more : Walk A} {before now : State} → G
 goes_as {now = now} g e = record { same = g.same ∙ ap (λ w. w now) e; around = g.around }
 
 -- one step on
-pub goes : {A B : Type 0} {whole : Walk B} {before now after : State} {w : Walk A} {a : A} (next : A → Walk B) → GoesOn whole before (w ⟫ next) now → Gives w now a after → GoesOn whole before (next a) after
+pub goes : {A B : Type 0} {whole : Walk B} {before now after : State} {w : Walk A} {a : A} (next : A → Walk B) → GoesOn whole before (w ⟫ next) now → WalkGives w now a after → GoesOn whole before (next a) after
 unfolding ◌⟫◌
 goes next g h = record { same = g.same ∙ ap (λ x. and_then x next) h.walked; around = h.around ∙ g.around }
 
@@ -58,21 +58,21 @@ pub goes_by : {R A B : Type 0} {seen : R → A} {whole : Walk B} {before now aft
 goes_by next g h = goes next g (given h)
 
 -- ---- and at the end
-pub stops : {A B : Type 0} {whole : Walk B} {before now : State} (w : Walk A) (next : A → Walk B) (e : EmitFault) → GoesOn whole before (w ⟫ next) now → Refuses w now e → Refuses whole before e
+pub stops : {A B : Type 0} {whole : Walk B} {before now : State} (w : Walk A) (next : A → Walk B) (e : EmitFault) → GoesOn whole before (w ⟫ next) now → StepRefuses w now e → StepRefuses whole before e
 unfolding ◌⟫◌
 stops w next e g (inl q) = inl q
 stops w next e g (inr q) = inr (g.same ∙ ap (λ x. and_then x next) q)
 
 -- a step that is refused refuses the whole
-pub stops_on : {S A B : Type 0} {see : S → B} {whole : Walk B} {before now left : State} (w : Walk A) (next : A → Walk B) (e : EmitFault) (r : Result S EmitFault) → GoesOn whole before (w ⟫ next) now → Refuses w now e → IsErrAnd r (λ x. x ≡ e) → AnswersAs see whole before r left
+pub stops_on : {S A B : Type 0} {see : S → B} {whole : Walk B} {before now left : State} (w : Walk A) (next : A → Walk B) (e : EmitFault) (r : Result S EmitFault) → GoesOn whole before (w ⟫ next) now → StepRefuses w now e → IsErrAnd r (λ x. x ≡ e) → AnswersAs see whole before r left
 stops_on w next e (Ok a) g h is = absurd is
-stops_on {whole = whole} {before = before} w next e (Err f) g h is = answer_err (subst (λ f. Refuses whole before f) (sym is) (stops w next e g h))
+stops_on {whole = whole} {before = before} w next e (Err f) g h is = answer_err (subst (λ f. StepRefuses whole before f) (sym is) (stops w next e g h))
 
 pub stops_by : {R S A B : Type 0} {see : S → B} {seen : R → A} {whole : Walk B} {before now after left : State} {w : Walk A} {e : EmitFault} (next : A → Walk B) (r : Result S EmitFault) → GoesOn whole before (w ⟫ next) now → AnswersAs seen w now (Err e) after → IsErrAnd r (λ x. x ≡ e) → AnswersAs see whole before r left
 stops_by {w = w} {e = e} next r g h is = stops_on w next e r g (refused h) is
 
 -- the last step
-pub refuses_on : {A : Type 0} {whole rest : Walk A} {before now : State} {e : EmitFault} → GoesOn whole before rest now → Refuses rest now e → Refuses whole before e
+pub refuses_on : {A : Type 0} {whole rest : Walk A} {before now : State} {e : EmitFault} → GoesOn whole before rest now → StepRefuses rest now e → StepRefuses whole before e
 refuses_on g (inl q) = inl q
 refuses_on g (inr q) = inr (g.same ∙ q)
 

@@ -13,8 +13,8 @@ use Rattle.graph_emit.specs.declared.fault.EmitKind.{EmitKind}
 use Rattle.graph_emit.specs.declared.fault.EmitFault.{EmitFault}
 use Rattle.graph_emit.specs.declared.fault.EmitFault.TheVariants as fault
 use Rattle.graph_emit.specs.State.{Made, State, Walk, ◌⟫◌}
-use Rattle.graph_emit.specs.Answers.{Refuses, Answers, made}
-use Rattle.graph_emit.specs.Program.{Known, functions_made, items_walk, setting, program_walk, blank, graph_of, shown, listed, IsGraph}
+use Rattle.graph_emit.specs.Answers.{StepRefuses, Answers, made}
+use Rattle.graph_emit.specs.Program.{Known, functions_made, items_walk, setting, program_walk, blank, graph_of, shown, listed, IsProgramGraph}
 use Rattle.graph_emit.proofs.Steps.{given, GoesOn, goes_by}
 use Rattle.graph_emit.proofs.Programs.{graph_kept}
 
@@ -34,8 +34,8 @@ walked k p start s t items known u is same f i =
     g.same ∙ (given i).walked
 
 -- a refusal of the walk is one of the graph
-pub graph_refused : (k : EmitKind) (p : Program) (e : EmitFault) (r : Result Listed EmitFault) → Refuses (program_walk k p.items) blank e → IsErrAnd r (λ x. x ≡ e)
-    → MatchResult r (λ list. IsGraph k p list) (λ f. (f ≡ fault.NoMemory) ⊎ (graph_of k p ≡ Err f))
+pub graph_refused : (k : EmitKind) (p : Program) (e : EmitFault) (r : Result Listed EmitFault) → StepRefuses (program_walk k p.items) blank e → IsErrAnd r (λ x. x ≡ e)
+    → MatchResult r (λ list. IsProgramGraph k p list) (λ f. (f ≡ fault.NoMemory) ⊎ (graph_of k p ≡ Err f))
 graph_refused k p e (Ok list) h is = absurd is
 graph_refused k p e (Err f) h is = subst (λ f. (f ≡ fault.NoMemory) ⊎ (graph_of k p ≡ Err f)) (sym is) h
 
@@ -50,7 +50,7 @@ shown_all spots ms e = shown_made spots ∙ ap (map shown) e
 pub no_edges : (vs : List Vertex) (es : List EmitEdge) → IsListed vs es → IsListed vs []
 no_edges vs es l = record { few = l.few; earlier = l.earlier; inside = All-nil (IsEdgeBelow (length vs)) }
 
-pub is_graph : (k : EmitKind) (p : Program) (t : State) (list : Listed) → graph_of k p ≡ Ok (t, tt) → list ≡ listed t → IsGraph k p list
+pub is_graph : (k : EmitKind) (p : Program) (t : State) (list : Listed) → graph_of k p ≡ Ok (t, tt) → list ≡ listed t → IsProgramGraph k p list
 is_graph k p t list e same = record { state = t; walked = e; same = same }
 
 pub is_kept : (k : EmitKind) (p : Program) (t : State) (list : Listed) → graph_of k p ≡ Ok (t, tt) → list ≡ listed t → IsGraphOfProgram list

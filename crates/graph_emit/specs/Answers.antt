@@ -9,20 +9,20 @@ use Rattle.graph_emit.specs.declared.emitter.Spot.{Spot}
 use Rattle.graph_emit.specs.State.{Made, State, Walk, is_deref_of, is_address_of, place_of}
 
 -- a step went well: what it gave and left. The names around the innermost scope are what they were.
-pub record Gives {A : Type 0} (w : Walk A) (before : State) (a : A) (after : State) : Type 0 where
+pub record WalkGives {A : Type 0} (w : Walk A) (before : State) (a : A) (after : State) : Type 0 where
   pub walked : w before ≡ Ok (after, a)
   pub around : after.outer ≡ before.outer
 
 -- memory was wanted, or this is the step's own refusal
-abbrev pub Refuses : {A : Type 0} → Walk A → State → EmitFault → Type 0
-Refuses w before e = (e ≡ fault.NoMemory) ⊎ (w before ≡ Err e)
+abbrev pub StepRefuses : {A : Type 0} → Walk A → State → EmitFault → Type 0
+StepRefuses w before e = (e ≡ fault.NoMemory) ⊎ (w before ≡ Err e)
 
 -- What a call answered, seen as what a step gives, is what the step gave and left, or its refusal, or memory was
 -- wanted.
 pub record AnswersAs {R A : Type 0} (seen : R → A) (w : Walk A) (before : State)
     (r : Result R EmitFault) (after : State) : Type 0 where
-  pub gives : (a : R) → r ≡ Ok a → Gives w before (seen a) after
-  pub refuses : (e : EmitFault) → r ≡ Err e → Refuses w before e
+  pub gives : (a : R) → r ≡ Ok a → WalkGives w before (seen a) after
+  pub refuses : (e : EmitFault) → r ≡ Err e → StepRefuses w before e
 
 abbrev pub Answers : {A : Type 0} → Walk A → State → Result A EmitFault → State → Type 0
 Answers {A} w before r after = AnswersAs (λ (a : A). a) w before r after

@@ -11,7 +11,7 @@ use Rattle.c_tree.specs.declared.tree.Program.{Program}
 use Rattle.emit_list.specs.declared.vertex.Vertex.{Vertex}
 use Rattle.emit_list.specs.Vertices.{Listed, IsGraphOfProgram}
 use Rattle.graph_emit.specs.declared.fault.EmitKind.{EmitKind}
-use Rattle.graph_emit.specs.Program.{IsGraph}
+use Rattle.graph_emit.specs.Program.{IsProgramGraph}
 
 -- names, one list after the other
 abbrev pub joined : List (List (List ℕ)) → List (List ℕ)
@@ -64,9 +64,9 @@ IsNamedBy names v = (v.name ≡ []) ⊎ Contains names v.name
 
 -- the graph of a program keeps the rules of such graphs
 abbrev pub GraphsKeepRules : Type 0
-GraphsKeepRules = (k : EmitKind) (program : Program) (list : Listed) → IsGraph k program list → IsGraphOfProgram list
+GraphsKeepRules = (k : EmitKind) (program : Program) (list : Listed) → IsProgramGraph k program list → IsGraphOfProgram list
 
 -- each vertex of a program's graph has no name, or one that the program declares
 abbrev pub GraphsAreNamed : Type 0
-GraphsAreNamed = (k : EmitKind) (program : Program) (list : Listed) → IsGraph k program list
+GraphsAreNamed = (k : EmitKind) (program : Program) (list : Listed) → IsProgramGraph k program list
     → All (IsNamedBy (declared_names program.items)) list.vertices

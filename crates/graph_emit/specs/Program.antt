@@ -106,7 +106,7 @@ abbrev pub listed : State → Listed
 listed s = record { vertices = map shown s.vertices; edges = s.edges }
 
 -- the list is that of the program's graph
-pub record IsGraph (k : EmitKind) (program : Program) (list : Listed) : Type 0 where
+pub record IsProgramGraph (k : EmitKind) (program : Program) (list : Listed) : Type 0 where
   pub state : State
   pub walked : graph_of k program ≡ Ok (state, tt)
   pub same : list ≡ listed state

@@ -3,7 +3,7 @@ ghost use Rattle.std.specs.Prelude.{◌≡◌, ◌⊎◌, ◌++◌, [], Err, OnO
 ghost use Rattle.emit_list.specs.Vertices.{IsListed, IsGraphOfProgram};
 ghost use Rattle.graph_emit.specs.Answers.{Answers, made};
 ghost use Rattle.graph_emit.specs.Settings.{seen};
-ghost use Rattle.graph_emit.specs.Program.{item_walk, items_walk, graph_of, shown, IsGraph};
+ghost use Rattle.graph_emit.specs.Program.{item_walk, items_walk, graph_of, shown, IsProgramGraph};
 
 use crate::emitter::{Emitter, Spot};
 use crate::expr::Setting;
@@ -80,7 +80,7 @@ fn add_edges(list: &mut EmitList, edges: &[EmitEdge]) -> Result<(), AllocError>
 /// function without one; `TooManyVertices` where a vertex would have the number 16,777,216. The only other fault is
 /// `NoMemory`, which also stands for a program of more than 2^32 functions.
 pub fn emit(alloc: Global, program: &Program, kind: EmitKind) -> Result<EmitList, EmitFault>
-    ensures graph { MatchResult result (λ list. IsGraph kind program.now list)
+    ensures graph { MatchResult result (λ list. IsProgramGraph kind program.now list)
         (λ fault. (fault ≡ EmitFault.NoMemory) ⊎ (graph_of kind program.now ≡ Err fault)) }
     ensures kept { IfOk result (λ list. IsGraphOfProgram list) }
 {

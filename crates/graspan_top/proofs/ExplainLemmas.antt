@@ -15,7 +15,7 @@ use Rattle.manifest_codec.specs.declared.types.Manifest.{Manifest}
 use Rattle.manifest_switch.specs.declared.slot.Found.TheVariants.{At, Blank}
 use Rattle.manifest_switch.specs.Slots.{current_of}
 use Rattle.manifest_switch.specs.Steps.{Stays}
-use Rattle.store_law.specs.Left.{IsDone}
+use Rattle.store_law.specs.Left.{HasNoWork}
 use Rattle.store_law.specs.Texts.{AreGood}
 use Rattle.store_fault.specs.Faults.{why_of}
 use Rattle.store_fault.specs.declared.fault.StoreFault.{StoreFault}
@@ -277,7 +277,7 @@ module _ (x : Given) (edges grammar : List ℕ) where
         })) why h))
 
     -- the store is closed
-    module _ (after : Contents) (s : OpenStore) (opened : IsTrue x.tells → IsOpenedAs x edges grammar after s) (done : IsDone s.manifest) (rose : Rises) where
+    module _ (after : Contents) (s : OpenStore) (opened : IsTrue x.tells → IsOpenedAs x edges grammar after s) (done : HasNoWork s.manifest) (rose : Rises) where
       closed_passed : ArePassed (closed_stages x edges grammar after rose)
       closed_passed = both_passed (ready_stages x edges grammar rose) (closing_stage x edges grammar after rose.disk ∷ []) accepts (λ tells. (s, opened tells, done), tt)
 

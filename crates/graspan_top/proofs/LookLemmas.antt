@@ -13,7 +13,7 @@ use Rattle.graph_words.specs.declared.types.Born.{Born}
 use Rattle.query_text.specs.Text.{answers_text}
 use Rattle.disk_model.specs.Disk.{Contents}
 use Rattle.manifest_codec.specs.declared.types.Manifest.{Manifest}
-use Rattle.store_law.specs.Left.{IsDone}
+use Rattle.store_law.specs.Left.{HasNoWork}
 use Rattle.open_store.specs.Store.{IsHeld, OpenStore}
 use Rattle.query_text.specs.declared.fault.AnswerFault.{AnswerFault}
 use Rattle.query_text.specs.declared.fault.AnswerFault.TheVariants as answers
@@ -88,8 +88,8 @@ module _ (tells : Bool) (c : Contents) (s : OpenStore) (held : IsTrue tells → 
   pub found_passed : (rose : Type 0) → ArePassed (found_stages tells c rose)
   found_passed rose = (λ t. inr (s, held t), (λ t. (s, held t), tt))
 
-  pub finished_passed : IsDone s.manifest → (rose : Type 0) → ArePassed (finished_stages tells c rose)
-  finished_passed done rose = both_passed (found_stages tells c rose) (done_stage tells c ∷ []) (found_passed rose) (where_current IsDone done, tt)
+  pub finished_passed : HasNoWork s.manifest → (rose : Type 0) → ArePassed (finished_stages tells c rose)
+  finished_passed done rose = both_passed (found_stages tells c rose) (done_stage tells c ∷ []) (found_passed rose) (where_current HasNoWork done, tt)
 
   -- it has work left
   pub unfinished_found : (rose : Type 0) (m : Manifest) (e : Status) → m ≡ s.manifest → (i j : ℕ) × (e ≡ Unfinished i j) × IsUnfinished m i j → Refuses (finished_stages tells c rose) e
@@ -107,7 +107,7 @@ module _ (tells : Bool) (c : Contents) (s : OpenStore) (held : IsTrue tells → 
   pub parts_passed : (rose out_rose : Type 0) → ArePassed (parts_stages tells c rose out_rose)
   parts_passed rose out_rose = both_passed (found_stages tells c rose) (printing_stage ⊥ out_rose blames_none ∷ []) (found_passed rose) (tt, tt)
 
-  module _ (done : IsDone s.manifest) (rose out_rose : Type 0) where
+  module _ (done : HasNoWork s.manifest) (rose out_rose : Type 0) where
     -- partitions that are wanted are loaded for printing
     loading_more : (w : Wants) (part : Type 0) (seen : Contents) → (part → rose) → seen ≡ c → Implies (print_causes out_rose part (IsBlamed s tells seen (w.first s) (w.number s))) (print_causes out_rose rose (BlamesLoading tells c w))
     loading_more w part seen more same =

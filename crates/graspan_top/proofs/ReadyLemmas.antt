@@ -15,7 +15,7 @@ use Rattle.manifest_switch.specs.Steps.{Stays}
 use Rattle.manifest_switch.proofs.LawLemmas.{alone_law, blank_iff}
 use Rattle.store_law.specs.Texts.{AreGood, Texts, normal, rules}
 use Rattle.store_law.specs.Listed.{AreExact}
-use Rattle.store_law.specs.Left.{IsDone, IsLeft, IsStore, IsStoreOf}
+use Rattle.store_law.specs.Left.{HasNoWork, IsLeft, IsStore, IsStoreOf}
 use Rattle.store_law.proofs.Exact.{exact_store}
 use Rattle.store_law.proofs.Keeping.{beside_slots, imported_store, stays_left}
 use Rattle.open_store.specs.Answers.{copy_of}
@@ -24,7 +24,7 @@ use Rattle.store_fault.specs.declared.fault.StoreFault.{StoreFault}
 use Rattle.open_store.specs.Store.{IsHeld, IsHeldAlone, OpenStore}
 use Rattle.store.specs.Import.{IsImportOf, IsNewStore, texts_of}
 use Rattle.closer.specs.Continuation.{Continues}
-use Rattle.closer.specs.Answers.{IsClosed}
+use Rattle.closer.specs.Answers.{IsClosedStore}
 use Rattle.closer.proofs.LawLemmas.{rules_held, store_after}
 use Rattle.graspan_top.specs.Given.{Given}
 use Rattle.graspan_top.specs.Run.{IsOpenedAs}
@@ -91,7 +91,7 @@ module _ (x : Given) (edges grammar text : List ℕ) (file : IsGrammarFile (x.to
 -- ---- the closing
 
 module _ (x : Given) (edges grammar : List ℕ) (seen : Contents) (images : Contents → Type 0) (s : OpenStore) (ready : IsReady x edges grammar seen images s) where
-  pub closed_ready : (now : Contents) (images' : Contents → Type 0) (last : OpenStore) → (IsTrue x.tells → images' now) → IsClosed x.tells seen images s now images' last → IsReady x edges grammar now images' last
+  pub closed_ready : (now : Contents) (images' : Contents → Type 0) (last : OpenStore) → (IsTrue x.tells → images' now) → IsClosedStore x.tells seen images s now images' last → IsReady x edges grammar now images' last
   closed_ready now images' last honest closed =
       record {
         accepts = ready.accepts;
@@ -109,7 +109,7 @@ module _ (x : Given) (edges grammar : List ℕ) (seen : Contents) (images : Cont
           (after.0, after.1)
 
   -- a store of the files that has no work left lists exactly the closure, in each image
-  pub exact_end : IsDone s.manifest → IsTrue x.tells → (g e : List ℕ) → x.told grammar ≡ Some g → x.told edges ≡ Some e → IsLeft (texts_of g e) x.before → AreExact (texts_of g e) seen × ((c : Contents) → images c → AreExact (texts_of g e) c)
+  pub exact_end : HasNoWork s.manifest → IsTrue x.tells → (g e : List ℕ) → x.told grammar ≡ Some g → x.told edges ≡ Some e → IsLeft (texts_of g e) x.before → AreExact (texts_of g e) seen × ((c : Contents) → images c → AreExact (texts_of g e) c)
   exact_end done tells g e tg te left = (exact_store t seen s.manifest parts here done, λ c image. exact_store t c s.manifest parts (there c image) done)
     where
       t : Texts

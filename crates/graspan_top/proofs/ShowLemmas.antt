@@ -12,7 +12,7 @@ use Rattle.disk_model.specs.Disk.{Contents}
 use Rattle.manifest_codec.specs.declared.types.Manifest.{Manifest}
 use Rattle.manifest_switch.specs.declared.slot.Found.TheVariants.{At}
 use Rattle.manifest_switch.specs.Slots.{current_of}
-use Rattle.store_law.specs.Left.{IsDone}
+use Rattle.store_law.specs.Left.{HasNoWork}
 use Rattle.store_law.specs.Listed.{AreListed, part_file}
 use Rattle.open_store.specs.Copy.{IsCopyRead}
 use Rattle.open_store.specs.Store.{IsHeld, OpenStore}
@@ -25,7 +25,7 @@ use Rattle.graspan_top.specs.Faults.{of_answer}
 use Rattle.graspan_top.specs.Given.{WhereCurrent}
 use Rattle.graspan_top.specs.Printed.{IsNothingOr, PrintsFirst, TakesBegun, TakesPrefix}
 use Rattle.graspan_top.specs.Refusals.{ArePassed, Explained}
-use Rattle.graspan_top.specs.Run.{IsEnd, IsRunBegun, IsRunText, IsShownText, done_line}
+use Rattle.graspan_top.specs.Run.{IsFinishedStore, IsRunBegun, IsRunText, IsShownText, done_line}
 use Rattle.graspan_top.specs.Stages.{IsShowBegun, show_stages, shown_text}
 use Rattle.graspan_top.specs.declared.status.Status.{Status}
 use Rattle.graspan_top.specs.declared.status.Status.TheVariants.{NotKnown}
@@ -66,7 +66,7 @@ module _ (s : OpenStore) (c : Contents) (held : IsHeld s c) (show : Option (List
       let m : t.manifest ≡ s.manifest = cc in
       go t.manifest m t.parts t.end t.shown t.shown_is t.printed
     where
-      go : (m : Manifest) → m ≡ s.manifest → (parts : List (List Born)) → IsEnd c m parts → (text' : List ℕ) → IsShownText m.labels (all_edges parts) show text' → text ≡ head_text m ++ (tally_text m.labels (all_edges parts) ++ (text' ++ done_line)) → (parts : List (List Born)) × AreListedIn s c parts × (text ≡ text_of parts)
+      go : (m : Manifest) → m ≡ s.manifest → (parts : List (List Born)) → IsFinishedStore c m parts → (text' : List ℕ) → IsShownText m.labels (all_edges parts) show text' → text ≡ head_text m ++ (tally_text m.labels (all_edges parts) ++ (text' ++ done_line)) → (parts : List (List Born)) × AreListedIn s c parts × (text ≡ text_of parts)
       go m same parts end text' is printed =
           let rules = rules_once s.manifest (c 2) end.rules s.rules (subst (λ (k : Manifest). IsCopyRead k (c 2) end.rules) same end.grammar) held.grammar in
           let listed : AreListed c s.manifest (normal_form end.rules).fresh parts = subst (λ (k : Manifest). AreListed c k (normal_form end.rules).fresh parts) same end.listed in
@@ -74,7 +74,7 @@ module _ (s : OpenStore) (c : Contents) (held : IsHeld s c) (show : Option (List
           (parts, subst (λ (r : List Rule). AreListed c s.manifest (normal_form r).fresh parts) rules listed, printed ∙ (rw (same, shown_is) refl))
 
   -- and the store that is held has such a text
-  pub some_text : IsDone s.manifest → (parts : List (List Born)) → AreListedIn s c parts → IsShownText s.manifest.labels (all_edges parts) show (shown_text shown (all_edges parts)) → IsRunText c show (text_of parts)
+  pub some_text : HasNoWork s.manifest → (parts : List (List Born)) → AreListedIn s c parts → IsShownText s.manifest.labels (all_edges parts) show (shown_text shown (all_edges parts)) → IsRunText c show (text_of parts)
   some_text done parts listed is =
       record {
         manifest = s.manifest;
@@ -93,7 +93,7 @@ fault_prints known IsText old new answers.WriteFault p = p
 fault_prints known IsText old new answers.NoMemory p = p
 
 -- what was begun
-pub show_begun : (s : OpenStore) (tells : Bool) (c : Contents) (show : Option (List ℕ)) (shown : Option LabelId) (old new : Option (List ℕ)) → (IsTrue tells → IsHeld s c) → IsDone s.manifest → ((edges : List Born) → IsShownText s.manifest.labels edges show (shown_text shown edges)) → (IsTrue tells → (text : List ℕ) × IsShowBegun s tells c shown text × AppendsPrefix old new text) → TakesBegun tells (IsNothingOr (IsRunBegun c show)) old new
+pub show_begun : (s : OpenStore) (tells : Bool) (c : Contents) (show : Option (List ℕ)) (shown : Option LabelId) (old new : Option (List ℕ)) → (IsTrue tells → IsHeld s c) → HasNoWork s.manifest → ((edges : List Born) → IsShownText s.manifest.labels edges show (shown_text shown edges)) → (IsTrue tells → (text : List ℕ) × IsShowBegun s tells c shown text × AppendsPrefix old new text) → TakesBegun tells (IsNothingOr (IsRunBegun c show)) old new
 show_begun s tells c show shown old new held done is begun t = go (begun t)
   where
     kind : (text : List ℕ) → IsShowBegun s tells c shown text → IsRunBegun c show text

@@ -14,15 +14,15 @@ use Rattle.store_law.specs.Texts.{Texts}
 use Rattle.store_law.specs.Left.{IsLeft, IsStore, IsStoreOf}
 use Rattle.store_law.proofs.Keeping.{fresh_holds, stays_left}
 use Rattle.open_store.specs.Store.{IsHeldAlone, OpenStore}
-use Rattle.store.specs.Import.{HasFresh, Imports, texts_of}
+use Rattle.store.specs.Import.{HasFreshStore, Imports, texts_of}
 use Rattle.closer.specs.Answers.{Moves}
-use Rattle.closer.specs.Continuation.{GoesOn}
+use Rattle.closer.specs.Continuation.{ImageGoesOn}
 use Rattle.closer.proofs.LawLemmas.{left_further, retains_store, rules_held}
 use Rattle.graspan_top.specs.Run.{StopsLeave}
 use Rattle.graspan_top.specs.Stages.{IsGrammarFile}
 
 -- the images of which a clause speaks are those of the two files
-fresh_left : (text g e : List ℕ) (told : Option (List ℕ)) (limit : ℕ) (c : Contents) → text ≡ g → told ≡ Some e → HasFresh text told limit c → IsLeft (texts_of g e) c
+fresh_left : (text g e : List ℕ) (told : Option (List ℕ)) (limit : ℕ) (c : Contents) → text ≡ g → told ≡ Some e → HasFreshStore text told limit c → IsLeft (texts_of g e) c
 fresh_left text g e told limit c same te h =
     inr (
       h.manifest,
@@ -85,4 +85,4 @@ module _ {D : Type 0} (seen : D → Contents) (images : D → Contents → Type 
       turn t left c d image (inr on) =
           let here = honest d image in
           let st = held_store t s (seen mid) (held (seen mid) here) (left (seen mid) here) in
-          left_further t (seen mid) c s.manifest st.0 st.1.rest (subst (λ r. GoesOn (normal_form r) (seen mid) s.manifest c) (rules_held t s (seen mid) st.1.rest.texts (held (seen mid) here).grammar) on)
+          left_further t (seen mid) c s.manifest st.0 st.1.rest (subst (λ r. ImageGoesOn (normal_form r) (seen mid) s.manifest c) (rules_held t s (seen mid) st.1.rest.texts (held (seen mid) here).grammar) on)

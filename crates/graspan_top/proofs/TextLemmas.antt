@@ -11,7 +11,7 @@ use Rattle.normal_law.specs.NormalForm.{normal_form}
 use Rattle.closing_machine.specs.State.{place}
 use Rattle.closing_machine.specs.Parts.{all_edges}
 use Rattle.disk_model.specs.Disk.{Contents}
-use Rattle.partition_file.specs.Spelling.{Fits, IsExpect, Part}
+use Rattle.partition_file.specs.Spelling.{FitsPart, IsExpect, Part}
 use Rattle.partition_file.proofs.FileLaws.{one_part}
 use Rattle.dest_map.specs.Table.{Comes, counts_of}
 use Rattle.pair_sched.specs.Marks.{joined_of, newest_of}
@@ -21,12 +21,12 @@ use Rattle.manifest_switch.specs.declared.slot.Found.{Found}
 use Rattle.manifest_switch.specs.declared.slot.Found.TheVariants.{At, Blank}
 use Rattle.manifest_switch.specs.declared.slot.OpenFault.{OpenFault}
 use Rattle.store_law.specs.Listed.{AreListed, ends_of, expect_of, part_file, part_of}
-use Rattle.store_law.specs.Left.{IsDone}
+use Rattle.store_law.specs.Left.{HasNoWork}
 use Rattle.store_law.proofs.Intervals.{cut_from_cover}
 use Rattle.open_store.specs.Copy.{IsCopyRead}
 use Rattle.open_store.specs.Store.{IsHeld, IsOpenStore, OpenStore, expect_in}
 use Rattle.open_store.specs.PartRead.{IsRead}
-use Rattle.query_text.specs.Answered.{AreListedIn, AreRead, IsPrinted}
+use Rattle.query_text.specs.Answered.{AreListedIn, AreRead, ArePartsPrinted}
 use Rattle.query_text.specs.Text.{IsStateLine, answers_in, answers_text, dump_text, head_text, unfinished_line}
 use Rattle.query_text.specs.Text.IsStateLine.{finished, unfinished}
 use Rattle.query_text.specs.declared.fault.AnswerFault.{AnswerFault}
@@ -38,7 +38,7 @@ use Rattle.graspan_top.specs.Faults.{of_answer}
 use Rattle.graspan_top.specs.Given.{HasCurrent}
 use Rattle.graspan_top.specs.Looks.{IsDumpFront, IsDumpText, IsPartEnd, IsPartsText, IsQueryText, count_line}
 use Rattle.graspan_top.specs.Printed.{Begins, IsNothingOr, PrintsFirst, TakesBegun, TakesPrefix, status_of}
-use Rattle.graspan_top.specs.Run.{IsEnd}
+use Rattle.graspan_top.specs.Run.{IsFinishedStore}
 use Rattle.graspan_top.specs.declared.status.Status.{Status}
 use Rattle.graspan_top.specs.declared.status.Status.TheVariants.{Done, Words, InputFault, OtherInput, ReadFault, DiskFault, WriteFault, NoMemory, BadStore, NoStore, Unfinished, NotKnown}
 use Rattle.graspan_top.proofs.LookLemmas.{one_number, status_at}
@@ -143,12 +143,12 @@ module _ (s : OpenStore) (c now : Contents) (same : now ≡ c) (tells : Bool) (h
   pub dump_short : (IsTrue tells → (parts : List (List Born)) → AreListedIn s now parts → AppendsPrefix old new (dump_text s.manifest.labels (all_edges parts))) → TakesPrefix tells (IsDumpText c) old new
   dump_short listed text t is =
       let same_manifest = one_manifest s c (held t) is.manifest (is.end.slot, is.end.current) in
-      let end = subst (λ (m : Manifest). IsEnd c m is.parts) same_manifest is.end in
+      let end = subst (λ (m : Manifest). IsFinishedStore c m is.parts) same_manifest is.end in
       let here = subst (λ (rules : List Rule). AreListed c s.manifest (normal_form rules).fresh is.parts) (one_grammar s c (held t) end.rules end.grammar) end.listed in
       let part = listed t is.parts (subst (λ (x : Contents). AreListedIn s x is.parts) (sym same) here) in
       subst (λ (l : List ℕ). AppendsPrefix old new l) (sym (is.printed ∙ ap (λ (m : Manifest). dump_text m.labels (all_edges is.parts)) same_manifest)) part
 
-  pub dump_begun : (f : AnswerFault) (read : List (List Born)) → IsDone s.manifest → IsPrinted {T = Unit {0}} s tells now 0 (length s.manifest.parts) (dump_text s.manifest.labels) old new (Err f) read → TakesBegun tells (IsNothingOr (IsDumpFront c)) old new
+  pub dump_begun : (f : AnswerFault) (read : List (List Born)) → HasNoWork s.manifest → ArePartsPrinted {T = Unit {0}} s tells now 0 (length s.manifest.parts) (dump_text s.manifest.labels) old new (Err f) read → TakesBegun tells (IsNothingOr (IsDumpFront c)) old new
   dump_begun f read done p t =
       let are = subst (λ (b : Bool). AreRead s b c 0 read) t (subst (λ (x : Contents). AreRead s tells x 0 read) same p.are_read) in
       let front : IsDumpFront c (dump_text s.manifest.labels (all_edges read)) = record { store = s; held = held t; done = done; read = read; are_read = are; printed = refl } in
@@ -160,10 +160,10 @@ module _ (s : OpenStore) (c now : Contents) (same : now ≡ c) (tells : Bool) (h
       let each = λ (i : ℕ) (below : i < length s.manifest.parts). let e : 0 + i ≡ i = omega arith in subst (λ (n : ℕ). IsRead s n tells (c (part_file s.manifest n)) (slice_index_or read i [])) e (are.each i (omega (arith, below, all))) in
       record { size = all; spells = λ i below. (each i below).spells t; fits = λ i below. (each i below).fits }
 
-  pub dump_whole : (read : List (List Born)) → IsDone s.manifest → IsPrinted {T = Unit {0}} s tells now 0 (length s.manifest.parts) (dump_text s.manifest.labels) old new (Ok tt) read → IsTrue tells → (text : List ℕ) × IsDumpText c text × Appends old new text
+  pub dump_whole : (read : List (List Born)) → HasNoWork s.manifest → ArePartsPrinted {T = Unit {0}} s tells now 0 (length s.manifest.parts) (dump_text s.manifest.labels) old new (Ok tt) read → IsTrue tells → (text : List ℕ) × IsDumpText c text × Appends old new text
   dump_whole read done printed t =
-      let p = subst (λ (x : Contents). IsPrinted {T = Unit {0}} s tells x 0 (length s.manifest.parts) (dump_text s.manifest.labels) old new (Ok tt) read) same printed in
-      let end : IsEnd c s.manifest read = record { slot = s.slot; current = (held t).current; rules = s.rules; grammar = (held t).grammar; listed = read_listed read t p.are_read p.all; done = done } in
+      let p = subst (λ (x : Contents). ArePartsPrinted {T = Unit {0}} s tells x 0 (length s.manifest.parts) (dump_text s.manifest.labels) old new (Ok tt) read) same printed in
+      let end : IsFinishedStore c s.manifest read = record { slot = s.slot; current = (held t).current; rules = s.rules; grammar = (held t).grammar; listed = read_listed read t p.are_read p.all; done = done } in
       (dump_text s.manifest.labels (all_edges read), record { manifest = s.manifest; parts = read; end = end; printed = refl }, p.taken)
 
 -- ---- query
@@ -196,14 +196,14 @@ module _ (s : OpenStore) (tells : Bool) (label : LabelId) (from : ℕ) (to : Opt
 
   -- the partition was read and all of it printed, or a prefix where the call failed, and of nothing where it wasn't read
   abbrev IsTaken : {T : Type 0} → Contents → Option (List ℕ) → Option (List ℕ) → Result T AnswerFault → List (List Born) → Type 0
-  IsTaken c old new r read = IsPrinted s tells c asked 1 whole old new r read × (length read ≡ 0 → AppendsPrefix old new [])
+  IsTaken c old new r read = ArePartsPrinted s tells c asked 1 whole old new r read × (length read ≡ 0 → AppendsPrefix old new [])
 
   none_read : (read : List (List Born)) (old new : Option (List ℕ)) → AppendsPrefix old new (lines (all_edges read)) → length read ≡ 0 → AppendsPrefix old new []
   none_read [] old new h none = h
   none_read (p ∷ read) old new h none = absurd (omega (arith, none))
 
   -- the answers failed
-  pub query_stopped : {T : Type 0} (c : Contents) (f : AnswerFault) (old new : Option (List ℕ)) (read : List (List Born)) (r : Result T AnswerFault) → IsErrAnd r (λ y. y ≡ f) → IsPrinted {T = ℕ} s tells c asked 1 lines old new (Err f) read → IsTaken c old new r read
+  pub query_stopped : {T : Type 0} (c : Contents) (f : AnswerFault) (old new : Option (List ℕ)) (read : List (List Born)) (r : Result T AnswerFault) → IsErrAnd r (λ y. y ≡ f) → ArePartsPrinted {T = ℕ} s tells c asked 1 lines old new (Err f) read → IsTaken c old new r read
   query_stopped {T} c f old new read r is p =
       rw (handed_on T r f is) (
         record {
@@ -215,7 +215,7 @@ module _ (s : OpenStore) (tells : Bool) (label : LabelId) (from : ℕ) (to : Opt
         none_read read old new p.taken,
       )
 
-  module _ (c : Contents) (n : ℕ) (old mid new : Option (List ℕ)) (line : List ℕ) (read : List (List Born)) (p : IsPrinted {T = ℕ} s tells c asked 1 lines old mid (Ok n) read) (is_number : n ≡ number (all_edges read)) (is_line : line ≡ count_line n) where
+  module _ (c : Contents) (n : ℕ) (old mid new : Option (List ℕ)) (line : List ℕ) (read : List (List Born)) (p : ArePartsPrinted {T = ℕ} s tells c asked 1 lines old mid (Ok n) read) (is_number : n ≡ number (all_edges read)) (is_line : line ≡ count_line n) where
     is_last : line ≡ count_line (number (all_edges read))
     is_last = is_line ∙ ap (λ (k : ℕ). count_line k) is_number
 
@@ -255,7 +255,7 @@ module _ (s : OpenStore) (tells : Bool) (label : LabelId) (from : ℕ) (to : Opt
     one_end edges q rest end are =
         let r = first_read q rest are in
         let same_rules = one_grammar s c held end.rules end.grammar in
-        let fits = subst (λ (rules : List Rule). Fits (expect_of s.manifest (normal_form rules).fresh asked) (part_of s.manifest asked edges)) same_rules end.fits in
+        let fits = subst (λ (rules : List Rule). FitsPart (expect_of s.manifest (normal_form rules).fresh asked) (part_of s.manifest asked edges)) same_rules end.fits in
         ap (λ (p : Part). p.edges) (one_part (expect_in s asked) (c (part_file s.manifest asked)) (part_of s.manifest asked q) (part_of s.manifest asked edges) (expected s o asked) r.fits fits (r.spells t) end.spells)
 
     same_label : (l : LabelId) (name : List ℕ) → slice_get s.manifest.labels label.0 ≡ Some name → slice_get s.manifest.labels l.0 ≡ Some name → l ≡ label
@@ -274,18 +274,18 @@ module _ (s : OpenStore) (tells : Bool) (label : LabelId) (from : ℕ) (to : Opt
         let printed = q.printed ∙ ap (λ (l : LabelId). answers_text l (Some from) to q.edges ++ count_line (length (answers_in l (Some from) to q.edges))) number_is in
         subst (λ (l : List ℕ). AppendsPrefix old new l) (sym printed) (short_read old new f q.edges read end p)
 
-    text_of : (name : List ℕ) (q : List Born) → slice_get s.manifest.labels label.0 ≡ Some name → IsDone s.manifest → AreRead s tells c asked (q ∷ []) → IsQueryText c name from to (whole q)
+    text_of : (name : List ℕ) (q : List Born) → slice_get s.manifest.labels label.0 ≡ Some name → HasNoWork s.manifest → AreRead s tells c asked (q ∷ []) → IsQueryText c name from to (whole q)
     text_of name q is done are =
         let r = first_read q [] are in
         let end : IsPartEnd c s.manifest from q = record { current = (s.slot, held.current); rules = s.rules; grammar = held.grammar; done = done; spells = r.spells t; fits = r.fits } in
         record { manifest = s.manifest; edges = q; end = end; number = label; is_number = is; printed = refl }
 
-    whole_read : (name : List ℕ) (old new : Option (List ℕ)) (read : List (List Born)) → slice_get s.manifest.labels label.0 ≡ Some name → IsDone s.manifest → IsTaken {T = Unit {0}} c old new (Ok tt) read → (text : List ℕ) × IsQueryText c name from to text × Appends old new text
+    whole_read : (name : List ℕ) (old new : Option (List ℕ)) (read : List (List Born)) → slice_get s.manifest.labels label.0 ≡ Some name → HasNoWork s.manifest → IsTaken {T = Unit {0}} c old new (Ok tt) read → (text : List ℕ) × IsQueryText c name from to text × Appends old new text
     whole_read name old new [] is done p = absurd (omega (arith, p.0.all))
     whole_read name old new (q ∷ []) is done p = (whole q, text_of name q is done p.0.are_read, subst (λ (e : List Born). Appends old new (whole e)) (append-nil q) p.0.taken)
     whole_read name old new (q ∷ r ∷ rest) is done p = absurd (omega (arith, p.0.few))
 
-    begun_read : (name : List ℕ) (old new : Option (List ℕ)) (f : AnswerFault) (read : List (List Born)) → slice_get s.manifest.labels label.0 ≡ Some name → IsDone s.manifest → IsTaken {T = Unit {0}} c old new (Err f) read → (text : List ℕ) × IsNothingOr (IsQueryText c name from to) text × AppendsPrefix old new text
+    begun_read : (name : List ℕ) (old new : Option (List ℕ)) (f : AnswerFault) (read : List (List Born)) → slice_get s.manifest.labels label.0 ≡ Some name → HasNoWork s.manifest → IsTaken {T = Unit {0}} c old new (Err f) read → (text : List ℕ) × IsNothingOr (IsQueryText c name from to) text × AppendsPrefix old new text
     begun_read name old new f [] is done p = ([], inl refl, p.1 refl)
     begun_read name old new f (q ∷ []) is done p = (whole q, inr (text_of name q is done p.0.are_read), subst (λ (e : List Born). AppendsPrefix old new (whole e)) (append-nil q) p.0.taken)
     begun_read name old new f (q ∷ r ∷ rest) is done p = absurd (omega (arith, p.0.few))
@@ -294,8 +294,8 @@ module _ (s : OpenStore) (tells : Bool) (label : LabelId) (from : ℕ) (to : Opt
     pub query_short : (f : AnswerFault) → IsTaken {T = Unit {0}} now old new (Err f) read → TakesPrefix tells (IsQueryText c name from to) old new
     query_short f p text t q = short_text o c (held t) t name old new f read is (subst (λ (x : Contents). IsTaken {T = Unit {0}} x old new (Err f) read) same p) text q
 
-    pub query_whole : IsDone s.manifest → IsTaken {T = Unit {0}} now old new (Ok tt) read → IsTrue tells → (text : List ℕ) × IsQueryText c name from to text × Appends old new text
+    pub query_whole : HasNoWork s.manifest → IsTaken {T = Unit {0}} now old new (Ok tt) read → IsTrue tells → (text : List ℕ) × IsQueryText c name from to text × Appends old new text
     query_whole done p t = whole_read o c (held t) t name old new read is done (subst (λ (x : Contents). IsTaken {T = Unit {0}} x old new (Ok tt) read) same p)
 
-    pub query_begun : (f : AnswerFault) → IsDone s.manifest → IsTaken {T = Unit {0}} now old new (Err f) read → TakesBegun tells (IsNothingOr (IsQueryText c name from to)) old new
+    pub query_begun : (f : AnswerFault) → HasNoWork s.manifest → IsTaken {T = Unit {0}} now old new (Err f) read → TakesBegun tells (IsNothingOr (IsQueryText c name from to)) old new
     query_begun f done p t = begun_read o c (held t) t name old new f read is done (subst (λ (x : Contents). IsTaken {T = Unit {0}} x old new (Err f) read) same p)

@@ -10,7 +10,7 @@ use Rattle.closing_machine.specs.Parts.{all_edges}
 use Rattle.disk_model.specs.Disk.{Contents}
 use Rattle.faults.specs.Reasons.{blames_none, no_cause}
 use Rattle.faults.specs.declared.form_kind.FormKind.{FormKind}
-use Rattle.partition_file.specs.Spelling.{Fits, Spells}
+use Rattle.partition_file.specs.Spelling.{FitsPart, SpellsPart}
 use Rattle.dest_map.specs.Table.{counts_of}
 use Rattle.pair_sched.specs.Marks.{joined_of, newest_of}
 use Rattle.pair_sched.specs.Pick.{IsLeastDirty}
@@ -18,14 +18,14 @@ use Rattle.manifest_codec.specs.declared.types.Manifest.{Manifest}
 use Rattle.manifest_switch.specs.declared.slot.Found.TheVariants.{Blank}
 use Rattle.manifest_switch.specs.Slots.{current_of}
 use Rattle.store_law.specs.Listed.{ends_of, expect_of, part_file, part_of}
-use Rattle.store_law.specs.Left.{IsDone}
+use Rattle.store_law.specs.Left.{HasNoWork}
 use Rattle.open_store.specs.Copy.{IsCopyRead}
 use Rattle.open_store.specs.Store.{IsHeld, OpenStore}
 use Rattle.query_text.specs.Text.{IsStateLine, answers_in, answers_text, dump_text, head_text}
 use Rattle.query_text.specs.Answered.{AreRead, IsBlamed, first_asked, wanted}
 use Rattle.graspan_top.specs.Given.{HasCurrent, HasCurrentWith, WhereCurrent}
 use Rattle.graspan_top.specs.Refusals.{Stage}
-use Rattle.graspan_top.specs.Run.{IsEnd, printing_stage, store_stage}
+use Rattle.graspan_top.specs.Run.{IsFinishedStore, printing_stage, store_stage}
 
 -- ---- the stages of the commands that only read
 
@@ -46,7 +46,7 @@ abbrev pub done_stage : Bool → Contents → Stage
 done_stage tells c =
     record {
       refuses = record no_cause { left = λ i j. HasCurrentWith tells c (λ m. IsUnfinished m i j) };
-      passed = WhereCurrent tells c IsDone;
+      passed = WhereCurrent tells c HasNoWork;
     }
 
 -- the stages up to a store, and up to one without work left
@@ -92,14 +92,14 @@ parts_stages tells c disk_rose out_rose = found_stages tells c disk_rose ++ (pri
 pub record IsDumpText (c : Contents) (text : List ℕ) : Type 0 where
   pub manifest : Manifest
   pub parts : List (List Born)
-  pub end : IsEnd c manifest parts
+  pub end : IsFinishedStore c manifest parts
   pub printed : text ≡ dump_text manifest.labels (all_edges parts)
 
 -- the lines of the first partitions of a store without work left, as far as these can be read
 pub record IsDumpFront (c : Contents) (text : List ℕ) : Type 0 where
   pub store : OpenStore
   pub held : IsHeld store c
-  pub done : IsDone store.manifest
+  pub done : HasNoWork store.manifest
   pub read : List (List Born)
   pub are_read : AreRead store true c 0 read
   pub printed : text ≡ dump_text store.manifest.labels (all_edges read)
@@ -115,9 +115,9 @@ pub record IsPartEnd (c : Contents) (m : Manifest) (u : ℕ) (edges : List Born)
   pub current : HasCurrent c m
   pub rules : List Rule
   pub grammar : IsCopyRead m (c 2) rules
-  pub done : IsDone m
-  pub spells : Spells (c (part_file m (place (ends_of m) u))) (part_of m (place (ends_of m) u) edges)
-  pub fits : Fits (expect_of m (normal_form rules).fresh (place (ends_of m) u)) (part_of m (place (ends_of m) u) edges)
+  pub done : HasNoWork m
+  pub spells : SpellsPart (c (part_file m (place (ends_of m) u))) (part_of m (place (ends_of m) u) edges)
+  pub fits : FitsPart (expect_of m (normal_form rules).fresh (place (ends_of m) u)) (part_of m (place (ends_of m) u) edges)
 
 abbrev pub count_line : ℕ → List ℕ
 count_line n = codes "count " ++ (decimal n ++ 10 ∷ [])

@@ -21,7 +21,7 @@ use Rattle.manifest_switch.specs.Slots.{current_of}
 use Rattle.manifest_switch.specs.Steps.{Stays}
 use Rattle.store_law.specs.Texts.{AreGood, Texts}
 use Rattle.store_law.specs.Listed.{AreListed}
-use Rattle.store_law.specs.Left.{IsDone, IsLeft, IsStoreOf}
+use Rattle.store_law.specs.Left.{HasNoWork, IsLeft, IsStoreOf}
 use Rattle.open_store.specs.Answers.{DiffersFirst, compare_causes, copy_of}
 use Rattle.open_store.specs.Copy.{IsCopyRead}
 use Rattle.open_store.specs.Opened.{IsBadStore}
@@ -36,13 +36,13 @@ use Rattle.graspan_top.specs.Refusals.{ArePassed, Rises, Stage, no_rise}
 -- ---- what a run prints
 
 -- The contents hold a store without work left, by this manifest and with these partitions.
-pub record IsEnd (c : Contents) (m : Manifest) (parts : List (List Born)) : Type 0 where
+pub record IsFinishedStore (c : Contents) (m : Manifest) (parts : List (List Born)) : Type 0 where
   pub slot : Slot
   pub current : current_of c ≡ Ok (At slot m)
   pub rules : List Rule
   pub grammar : IsCopyRead m (c 2) rules
   pub listed : AreListed c m (normal_form rules).fresh parts
-  pub done : IsDone m
+  pub done : HasNoWork m
 
 -- the answers of the label that is shown, and nothing where none is
 abbrev pub IsShownText : List (List ℕ) → List Born → Option (List ℕ) → List ℕ → Type 0
@@ -56,7 +56,7 @@ done_line = codes "done" ++ 10 ∷ []
 pub record IsRunText (c : Contents) (show : Option (List ℕ)) (text : List ℕ) : Type 0 where
   pub manifest : Manifest
   pub parts : List (List Born)
-  pub end : IsEnd c manifest parts
+  pub end : IsFinishedStore c manifest parts
   pub shown : List ℕ
   pub shown_is : IsShownText manifest.labels (all_edges parts) show shown
   pub printed : text ≡ head_text manifest ++ (tally_text manifest.labels (all_edges parts) ++ (shown ++ done_line))
@@ -65,7 +65,7 @@ pub record IsRunText (c : Contents) (show : Option (List ℕ)) (text : List ℕ)
 pub record IsRunFront (c : Contents) (text : List ℕ) : Type 0 where
   pub store : OpenStore
   pub held : IsHeld store c
-  pub done : IsDone store.manifest
+  pub done : HasNoWork store.manifest
   pub read : List (List Born)
   pub are_read : AreRead store true c 0 read
   pub printed : text ≡ head_text store.manifest ++ tally_text store.manifest.labels (all_edges read)
@@ -195,7 +195,7 @@ closing_stage x edges grammar after disk_rose =
     record {
       refuses = disk_causes disk_rose
           (λ file place kind. IsTrue x.tells → BlamesClosing x edges grammar file place kind);
-      passed = IsTrue x.tells → (s : OpenStore) × IsOpenedAs x edges grammar after s × IsDone s.manifest;
+      passed = IsTrue x.tells → (s : OpenStore) × IsOpenedAs x edges grammar after s × HasNoWork s.manifest;
     }
 
 -- The store has the label that is shown, where one is.

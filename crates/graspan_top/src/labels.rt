@@ -1,7 +1,7 @@
 //! A label's number is looked up.
 ghost use Rattle.std.specs.Prelude.{◌≡◌, List, ℕ, Some, Contains, IfOk, IfErr, option_map, slice_get};
 ghost use Rattle.graph_words.specs.declared.types.Born.{Born as ABorn};
-ghost use Rattle.manifest_codec.specs.Spelling.{Fits};
+ghost use Rattle.manifest_codec.specs.Spelling.{FitsManifest};
 ghost use Rattle.graspan_top.specs.Run.{IsShownText};
 ghost use Rattle.graspan_top.specs.Stages.{shown_text};
 ghost use Rattle.graspan_top.specs.declared.status.Status.TheVariants.{NotKnown};
@@ -26,7 +26,7 @@ pub(crate) fn shown_number(
     manifest: &Manifest,
     show: Option<&str>,
 ) -> Result<Option<LabelId>, Status>
-    requires { Fits manifest.now }
+    requires { FitsManifest manifest.now }
     ensures shown { IfOk result (λ l. (edges : List ABorn)
         → IsShownText manifest.now.labels edges (option_map (λ label. label.now) show.entry) (shown_text l edges)) }
     ensures only { IfOk result (λ l. (edges : List ABorn) (text : List ℕ)

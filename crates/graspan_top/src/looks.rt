@@ -5,11 +5,11 @@ ghost use Rattle.io_edge.specs.View.{WriteRose};
 ghost use Rattle.io_edge.specs.Devices.{AppendsPrefix};
 ghost use Rattle.disk_model.specs.View.{DiskRose, OnlyLooks};
 ghost use Rattle.graph_words.specs.declared.types.Born.{Born as ABorn};
-ghost use Rattle.manifest_codec.specs.Spelling.{Fits};
-ghost use Rattle.store_law.specs.Left.{IsDone};
+ghost use Rattle.manifest_codec.specs.Spelling.{FitsManifest};
+ghost use Rattle.store_law.specs.Left.{HasNoWork};
 ghost use Rattle.open_store.specs.Store.{IsHeld};
 ghost use Rattle.query_text.specs.Text.{answers_in, answers_text};
-ghost use Rattle.query_text.specs.Answered.{IsBlamed, IsPrinted, first_asked, print_causes, why_not_printed};
+ghost use Rattle.query_text.specs.Answered.{IsBlamed, ArePartsPrinted, first_asked, print_causes, why_not_printed};
 ghost use Rattle.graspan_top.specs.declared.status.Status.TheVariants.{NotKnown, Unfinished};
 ghost use Rattle.graspan_top.specs.Looks.{AreVerticesOf, IsDumpFront, IsDumpText, IsPartsText, IsQueryText, IsUnfinished};
 ghost use Rattle.graspan_top.specs.Looks.{count_line as the_count_line, dump_stages, finished_stages, found_stages};
@@ -44,8 +44,8 @@ fn found<D: Disk>(alloc: Global, disk: &mut D) -> Result<Store, Status>
 
 /// Refuses a store that has work left.
 fn finished(manifest: &Manifest) -> Result<(), Status>
-    requires { Fits manifest.now }
-    ensures done { OnOk result (IsDone manifest.now) }
+    requires { FitsManifest manifest.now }
+    ensures done { OnOk result (HasNoWork manifest.now) }
     ensures undone { IfErr result (λ s. (i j : ℕ) × (s ≡ Unfinished i j) × IsUnfinished manifest.now i j) }
 {
     match least_dirty(&manifest.map, &manifest.marks) {
@@ -57,7 +57,7 @@ fn finished(manifest: &Manifest) -> Result<(), Status>
 /// The store that the disk holds, which has no work left.
 fn finished_store<D: Disk>(alloc: Global, disk: &mut D) -> Result<Store, Status>
     ensures held { IsTrue D.tells → IfOk result (λ s. IsHeld s (D.seen disk.old)) }
-    ensures done { IfOk result (λ s. IsDone s.manifest) }
+    ensures done { IfOk result (λ s. HasNoWork s.manifest) }
     ensures looks { OnlyLooks D.Disk disk.old disk.new }
     ensures refused { IfErr result (Refuses (finished_stages D.tells (D.seen disk.old) (DiskRose D.Disk disk.old disk.new))) }
 {
@@ -138,7 +138,7 @@ fn print_query<D: Disk, O: Sink>(
     out: &mut O,
 ) -> Result<(), AnswerFault>
     requires { ends.from < store.now.manifest.vertices }
-    ensures printed { (read : List (List ABorn)) × IsPrinted store.now D.tells (D.seen disk.old) (first_asked store.now (Some ends.from)) 1
+    ensures printed { (read : List (List ABorn)) × ArePartsPrinted store.now D.tells (D.seen disk.old) (first_asked store.now (Some ends.from)) 1
         (λ edges. answers_text label (Some ends.from) ends.to edges
         ++ the_count_line (length (answers_in label (Some ends.from) ends.to edges))) (O.told out.old)
         (O.told out.new) result read × (length read ≡ 0 → AppendsPrefix (O.told out.old) (O.told out.new) []) }

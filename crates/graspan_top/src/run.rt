@@ -7,7 +7,7 @@ ghost use Rattle.io_edge.specs.View.{KeepsInputs, WriteRose};
 ghost use Rattle.closing_machine.specs.Parts.{all_edges};
 ghost use Rattle.disk_model.specs.Disk.{Contents};
 ghost use Rattle.disk_model.specs.View.{DiskRose, OnlyLooks};
-ghost use Rattle.store_law.specs.Left.{IsDone, IsLeft};
+ghost use Rattle.store_law.specs.Left.{HasNoWork, IsLeft};
 ghost use Rattle.store_law.specs.Listed.{AreExact};
 ghost use Rattle.open_store.specs.Store.{IsHeld};
 ghost use Rattle.store.specs.Import.{texts_of};
@@ -94,7 +94,7 @@ fn show_run<D: Disk, O: Sink>(
     out: &mut O,
 ) -> Result<(), Status>
     requires held { IsTrue D.tells → IsHeld store.now (D.seen disk.old) }
-    requires done { IsDone store.now.manifest }
+    requires done { HasNoWork store.now.manifest }
     ensures explained { Explained (show_stages store.now D.tells (D.seen disk.old) (option_map (λ l. l.now) show.entry)
         (DiskRose D.Disk disk.old disk.new) (WriteRose O.Sink out.old out.new)) (status_of result) }
     ensures printed { PrintsFirst D.tells (IsRunText (D.seen disk.old) (option_map (λ l. l.now) show.entry))
@@ -119,7 +119,7 @@ fn closed_store<I: Inputs, D: Disk>(
     ensures ready { IfOk result (IsReady (record
         { told = I.told inputs.old; tells = D.tells; before = D.seen disk.old }) files.now.edges.now
         files.now.grammar.now (D.seen disk.new) (D.may_leave disk.new)) }
-    ensures done { IfOk result (λ s. IsDone s.manifest) }
+    ensures done { IfOk result (λ s. HasNoWork s.manifest) }
     ensures refused { IfErr result (Refuses (closed_stages
         (record { told = I.told inputs.old; tells = D.tells; before = D.seen disk.old }) files.now.edges.now
         files.now.grammar.now (D.seen disk.new) (rises_in I.Inputs D.Disk inputs.old inputs.new disk.old disk.new))) }

@@ -6,7 +6,7 @@ use Rattle.std.proofs.lemmas.List.{take_all, drop_all}
 use Rattle.graph_words.specs.declared.types.Edge.{Edge}
 use Rattle.edge_text.specs.Feed.{IsFed}
 use Rattle.edge_text.proofs.FeedLemmas.{IsReadTo, reads_start, reads_on}
-use Rattle.io_edge.specs.Devices.{Gives}
+use Rattle.io_edge.specs.Devices.{GivesBytes}
 use Rattle.disk_model.specs.Disk.{Contents, Sets, written}
 use Rattle.import_text.specs.Degrees.{AreDegrees}
 use Rattle.import_text.specs.Tally.{Tallied, TakesPiece, TakesEnd}
@@ -86,7 +86,7 @@ stored_on file at text bytes old mid new end before now =
     }
 
 -- one piece more
-pub copying_on : (P : List ℕ → Type 0) (tells : Type 0) (file : ℕ) (first now after : Tallied) (old mid new : Contents) (text : List ℕ) (front : List Edge) (place n : ℕ) (buf : List ℕ) → now.reader.place ≡ place → ((f : List ℕ) → P f → Gives f place buf n)
+pub copying_on : (P : List ℕ → Type 0) (tells : Type 0) (file : ℕ) (first now after : Tallied) (old mid new : Contents) (text : List ℕ) (front : List Edge) (place n : ℕ) (buf : List ℕ) → now.reader.place ≡ place → ((f : List ℕ) → P f → GivesBytes f place buf n)
     → n ≤ length buf → IsCopying P tells file first now old mid text front → (tells → Sets file (written (mid file) place (take n buf)) mid new) → (t : TakesPiece (take n buf) now after) → IsCopying P tells file first after old new (text ++ take n buf) (front ++ t.added)
 copying_on P tells file first now after old mid new text front place n buf here gives few c stores t =
     record {

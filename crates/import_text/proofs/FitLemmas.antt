@@ -9,14 +9,14 @@ use Rattle.graph_words.specs.declared.types.Vertex.{Vertex}
 use Rattle.graph_words.specs.declared.types.LabelId.{LabelId}
 use Rattle.graph_words.specs.declared.types.Rule.{Rule}
 use Rattle.graph_words.specs.Reach.{Graph, graph_with, edge, rule, Yields, done, keep, rewrite}
-use Rattle.normal_law.specs.Closure.{Normal, IsUp, itself, above, IsEmpty, IsFresh}
+use Rattle.normal_law.specs.Closure.{Normal, IsUp, itself, above, IsEmpty, IsFreshLabel}
 use Rattle.normal_law.specs.NormalForm.{normal_form, fresh_words}
 use Rattle.closing_machine.specs.Machine.{IsGiven, input, loop}
 use Rattle.closing_machine.specs.Rounds.{born}
 use Rattle.closing_machine.proofs.Members.{All-from_members}
 use Rattle.edge_text.specs.EdgesText.{edges_of, vertex_count_of}
 use Rattle.edge_text.proofs.GraphLemmas.{IsGraph-with_count}
-use Rattle.partition_file.specs.Spelling.{Part, IsPart, Fits, FitsEdge}
+use Rattle.partition_file.specs.Spelling.{Part, IsPart, FitsPart, FitsEdge}
 use Rattle.import_text.specs.Given.{IsFrom, IsAboveIn, IsLoopIn}
 use Rattle.import_text.specs.GivenPart.{GathersCopy, GivesPart, expect_given}
 
@@ -32,7 +32,7 @@ left_below rules k a left (rewrite {a = b} {f = f} r m y) is none =
     let same : b ≡ a = cc in
     subst (λ (l : LabelId). l.0 < k) same (All-contains (λ (x : Rule). x.left.0 < k) rules (rule b r) left m)
 
-empty_known : (rules : List Rule) (k : ℕ) (a : LabelId) → All (λ r. r.left.0 < k) rules → IsEmpty (normal_form rules) a → (a.0 < k) ⊎ IsFresh (normal_form rules) a
+empty_known : (rules : List Rule) (k : ℕ) (a : LabelId) → All (λ r. r.left.0 < k) rules → IsEmpty (normal_form rules) a → (a.0 < k) ⊎ IsFreshLabel (normal_form rules) a
 empty_known rules k a left (inl named, (j, y)) =
     let test : nat_lt a.0 1000 ≡ true = grind (arith, nat_tests) in
     inl (left_below rules k a left y (ap (λ t. cond t (a ∷ []) (slice_index_or (fresh_words rules) (a.0 - 1000) [])) test) refl)
@@ -99,7 +99,7 @@ module _ (rules : List Rule) (labels : List (List ℕ)) (len vertices lo hi : �
       let label = known b.edge h.0 in
       record { known = label; number = numbers b.edge.label.0 label; vertex = ends b.edge h.0; earlier = omega (arith, h.1) }
 
-  pub fits_part : Fits (expect_given lo hi vertices (length labels) (normal_form rules).fresh) p
+  pub fits_part : FitsPart (expect_given lo hi vertices (length labels) (normal_form rules).fresh) p
   fits_part =
       record {
         lo = bounds.0;

@@ -9,7 +9,7 @@ use Rattle.graph_words.specs.declared.types.LabelId.{LabelId}
 use Rattle.graph_words.specs.declared.types.Vertex.{Vertex}
 use Rattle.graph_words.specs.Reach.{edge}
 use Rattle.normal_law.specs.Closure.{Normal, IsUp, IsEmpty}
-use Rattle.plain_closing.specs.Begin.{IsBetween}
+use Rattle.plain_closing.specs.Begin.{IsEdgeBetween}
 use Rattle.import_text.specs.Given.{AddsJust, IsFrom, IsAboveIn, IsLoopIn}
 
 pub AddsJust-none : (P : Edge → Type 0) (xs : List Edge) → ((e : Edge) → P e → ⊥) → AddsJust P xs xs
@@ -25,13 +25,13 @@ pub AddsJust-same : (P : Edge → Type 0) (xs ys zs : List Edge) → AddsJust P 
 AddsJust-same P xs ys zs p same e = (λ m. (p e).0 ((same e).0 m), λ h. (same e).1 ((p e).1 h))
 
 -- ---- an edge for each label
-pub between_none : (u v : Vertex) (xs : List Edge) → AddsJust (IsBetween u [] v) xs xs
-between_none u v xs = AddsJust-none (IsBetween u [] v) xs (λ e b. omega (arith, b.1.1))
+pub between_none : (u v : Vertex) (xs : List Edge) → AddsJust (IsEdgeBetween u [] v) xs xs
+between_none u v xs = AddsJust-none (IsEdgeBetween u [] v) xs (λ e b. omega (arith, b.1.1))
 
 -- one label more
-pub between_more : (u v : Vertex) (labels : List LabelId) (i : ℕ) (d : LabelId) (xs ys zs : List Edge) → i < length labels → AddsJust (IsBetween u (take i labels) v) xs ys → zs ≡ ys ++ edge u (get_or labels i d) v ∷ [] → AddsJust (IsBetween u (take (i + 1) labels) v) xs zs
+pub between_more : (u v : Vertex) (labels : List LabelId) (i : ℕ) (d : LabelId) (xs ys zs : List Edge) → i < length labels → AddsJust (IsEdgeBetween u (take i labels) v) xs ys → zs ≡ ys ++ edge u (get_or labels i d) v ∷ [] → AddsJust (IsEdgeBetween u (take (i + 1) labels) v) xs zs
 between_more u v labels i d xs ys zs l p is =
-    AddsJust-then (IsBetween u (take i labels) v) (λ e. edge u x v ≡ e) (IsBetween u (take (i + 1) labels) v) xs ys zs p pushed both
+    AddsJust-then (IsEdgeBetween u (take i labels) v) (λ e. edge u x v ≡ e) (IsEdgeBetween u (take (i + 1) labels) v) xs ys zs p pushed both
   where
     x : LabelId
     x = get_or labels i d
@@ -39,14 +39,14 @@ between_more u v labels i d xs ys zs l p is =
     pushed : AddsJust (λ e. edge u x v ≡ e) ys zs
     pushed = subst (λ (l : List Edge). AddsJust (λ e. edge u x v ≡ e) ys l) (sym is) (λ e. (λ m. Contains-push_cases ys (edge u x v) e m, λ h. elim h [ inl m ↦ Contains-append_left ys (edge u x v ∷ []) e m | inr same ↦ subst (λ (e : Edge). Contains (ys ++ edge u x v ∷ []) e) same (Contains-push ys (edge u x v)) ]))
 
-    both : (e : Edge) → IsBetween u (take (i + 1) labels) v e ↔ (IsBetween u (take i labels) v e ⊎ (edge u x v ≡ e))
+    both : (e : Edge) → IsEdgeBetween u (take (i + 1) labels) v e ↔ (IsEdgeBetween u (take i labels) v e ⊎ (edge u x v ≡ e))
     both e = (
       λ b. elim (Contains-push_cases (take i labels) x b.0 (subst (λ (ls : List LabelId). Contains ls b.0) (take_more labels i d l) b.1)) [ inl m ↦ inl (b.0, m, b.2) | inr same ↦ inr (ap (λ a. edge u a v) same ∙ sym b.2) ],
       λ h. elim h [ inl b ↦ (b.0, subst (λ (ls : List LabelId). Contains ls b.0) (sym (take_more labels i d l)) (Contains-append_left (take i labels) (x ∷ []) b.0 b.1), b.2) | inr same ↦ (x, subst (λ (ls : List LabelId). Contains ls x) (sym (take_more labels i d l)) (Contains-push (take i labels) x), sym same) ],
     )
 
-pub between_all : (u v : Vertex) (labels : List LabelId) (i : ℕ) (xs ys : List Edge) → length labels ≤ i → AddsJust (IsBetween u (take i labels) v) xs ys → AddsJust (IsBetween u labels v) xs ys
-between_all u v labels i xs ys past p = subst (λ (ls : List LabelId). AddsJust (IsBetween u ls v) xs ys) (take_all i labels past) p
+pub between_all : (u v : Vertex) (labels : List LabelId) (i : ℕ) (xs ys : List Edge) → length labels ≤ i → AddsJust (IsEdgeBetween u (take i labels) v) xs ys → AddsJust (IsEdgeBetween u labels v) xs ys
+between_all u v labels i xs ys past p = subst (λ (ls : List LabelId). AddsJust (IsEdgeBetween u ls v) xs ys) (take_all i labels past) p
 
 -- ---- the labels above the edges from an interval
 pub above_none : (n : Normal) (lo hi : ℕ) (xs : List Edge) → AddsJust (IsAboveIn n lo hi []) xs xs
@@ -67,16 +67,16 @@ pub above_elsewhere : (n : Normal) (lo hi : ℕ) (x : Edge) (xs : List Edge) →
 above_elsewhere n lo hi x xs away = AddsJust-none (IsAboveIn n lo hi (x ∷ [])) xs (λ e a. away (subst (λ (y : Edge). IsFrom lo hi y) (sym (only_one x (edge e.src a.1.0 e.dst) a.1.1)) a.0))
 
 -- and one from the interval the labels above its own
-pub above_one : (n : Normal) (lo hi : ℕ) (x : Edge) (labels : List LabelId) (xs ys : List Edge) → IsFrom lo hi x → ((a : LabelId) → Contains labels a ↔ IsUp n.rules x.label a) → AddsJust (IsBetween x.src labels x.dst) xs ys → AddsJust (IsAboveIn n lo hi (x ∷ [])) xs ys
+pub above_one : (n : Normal) (lo hi : ℕ) (x : Edge) (labels : List LabelId) (xs ys : List Edge) → IsFrom lo hi x → ((a : LabelId) → Contains labels a ↔ IsUp n.rules x.label a) → AddsJust (IsEdgeBetween x.src labels x.dst) xs ys → AddsJust (IsAboveIn n lo hi (x ∷ [])) xs ys
 above_one n lo hi x labels xs ys from up q e = (
   λ m. elim ((q e).0 m) [ inl m ↦ inl m | inr b ↦ inr (join b) ],
   λ h. elim h [ inl m ↦ (q e).1 (inl m) | inr a ↦ (q e).1 (inr (split a (only_one x (edge e.src a.1.0 e.dst) a.1.1))) ],
 )
   where
-    split : (a : IsAboveIn n lo hi (x ∷ []) e) → x ≡ edge e.src a.1.0 e.dst → IsBetween x.src labels x.dst e
+    split : (a : IsAboveIn n lo hi (x ∷ []) e) → x ≡ edge e.src a.1.0 e.dst → IsEdgeBetween x.src labels x.dst e
     split a same = (e.label, (up e.label).1 (subst (λ (b : LabelId). IsUp n.rules b e.label) (sym (ap (λ (y : Edge). y.label) same)) a.1.2), ap (λ (y : Edge). edge y.src e.label y.dst) (sym same))
 
-    join : IsBetween x.src labels x.dst e → IsAboveIn n lo hi (x ∷ []) e
+    join : IsEdgeBetween x.src labels x.dst e → IsAboveIn n lo hi (x ∷ []) e
     join b = subst (λ (e : Edge). IsAboveIn n lo hi (x ∷ []) e) (sym b.2) (from, (x.label, Contains-push [] x, (up b.0).0 b.1))
 
 -- one edge more
@@ -96,17 +96,17 @@ loop_is : (e : Edge) (v : ℕ) → e.src.0 ≡ v → e.dst.0 ≡ v → e ≡ edg
 loop_is e v here there = ap (λ n. edge (record { 0 = n }) e.label e.dst) here ∙ ap (λ n. edge (record { 0 = v }) e.label (record { 0 = n })) there
 
 -- one vertex more
-pub loops_more : (n : Normal) (lo v : ℕ) (labels : List LabelId) (xs ys zs : List Edge) → lo ≤ v → ((a : LabelId) → Contains labels a ↔ IsEmpty n a) → AddsJust (IsLoopIn n lo v) xs ys → AddsJust (IsBetween (record { 0 = v }) labels (record { 0 = v })) ys zs → AddsJust (IsLoopIn n lo (v + 1)) xs zs
+pub loops_more : (n : Normal) (lo v : ℕ) (labels : List LabelId) (xs ys zs : List Edge) → lo ≤ v → ((a : LabelId) → Contains labels a ↔ IsEmpty n a) → AddsJust (IsLoopIn n lo v) xs ys → AddsJust (IsEdgeBetween (record { 0 = v }) labels (record { 0 = v })) ys zs → AddsJust (IsLoopIn n lo (v + 1)) xs zs
 loops_more n lo v labels xs ys zs l empty p q =
-    AddsJust-then (IsLoopIn n lo v) (IsBetween (record { 0 = v }) labels (record { 0 = v })) (IsLoopIn n lo (v + 1)) xs ys zs p q (λ e. (split e (cases_lt e.src.0 v), join e))
+    AddsJust-then (IsLoopIn n lo v) (IsEdgeBetween (record { 0 = v }) labels (record { 0 = v })) (IsLoopIn n lo (v + 1)) xs ys zs p q (λ e. (split e (cases_lt e.src.0 v), join e))
   where
-    split : (e : Edge) → (e.src.0 < v) ⊎ (v ≤ e.src.0) → IsLoopIn n lo (v + 1) e → IsLoopIn n lo v e ⊎ IsBetween (record { 0 = v }) labels (record { 0 = v }) e
+    split : (e : Edge) → (e.src.0 < v) ⊎ (v ≤ e.src.0) → IsLoopIn n lo (v + 1) e → IsLoopIn n lo v e ⊎ IsEdgeBetween (record { 0 = v }) labels (record { 0 = v }) e
     split e (inl below) a = inl ((a.0.0, below), a.1, a.2)
     split e (inr above) a =
         let here : e.src.0 ≡ v = omega (arith, above, a.0.1) in
         let there : e.dst.0 ≡ v = ap (λ (u : Vertex). u.0) (sym a.1) ∙ here in
         inr (e.label, (empty e.label).1 a.2, loop_is e v here there)
 
-    join : (e : Edge) → IsLoopIn n lo v e ⊎ IsBetween (record { 0 = v }) labels (record { 0 = v }) e → IsLoopIn n lo (v + 1) e
+    join : (e : Edge) → IsLoopIn n lo v e ⊎ IsEdgeBetween (record { 0 = v }) labels (record { 0 = v }) e → IsLoopIn n lo (v + 1) e
     join e (inl a) = ((a.0.0, omega (arith, a.0.1)), a.1, a.2)
     join e (inr (a, m, is)) = subst (λ (e : Edge). IsLoopIn n lo (v + 1) e) (sym is) ((l, omega arith), refl, (empty a).0 m)

@@ -3,22 +3,22 @@ use Rattle.std.proofs.Common.{◌≡◌, ◌≢◌, ℕ, ◌≤◌, List, [], �
 use Rattle.graph_words.specs.declared.types.Edge.{Edge}
 use Rattle.normal_law.specs.Closure.{Normal}
 use Rattle.faults.specs.declared.kinds.InputKind.{InputKind}
-use Rattle.io_edge.specs.Devices.{Gives}
+use Rattle.io_edge.specs.Devices.{GivesBytes}
 use Rattle.edge_text.specs.declared.edges.EdgesFault.{EdgesFault}
 use Rattle.edge_text.specs.declared.edges.EdgesFault.TheVariants as edges
 use Rattle.edge_text.specs.Feed.{IsFed}
 use Rattle.edge_text.proofs.FeedLemmas.{IsReadTo, reads_start, reads_on}
-use Rattle.disk_model.specs.Disk.{Reads}
+use Rattle.disk_model.specs.Disk.{ReadsBytes}
 use Rattle.faults.specs.Reasons.{BlamesText, Holds, disk_causes}
 use Rattle.store_fault.specs.Faults.{why_of}
 use Rattle.import_text.specs.Given.{AddsJust, IsAboveIn}
-use Rattle.import_text.specs.Gathered.{Gathered, Gathers, GathersPiece, GathersEnd}
+use Rattle.import_text.specs.Gathered.{Gathered, GathersEdges, GathersPiece, GathersEnd}
 use Rattle.import_text.specs.GivenPart.{GathersFile, copy_fault}
 use Rattle.import_text.proofs.DegreeLemmas.{vertex_count_of-append}
 use Rattle.import_text.proofs.GivenLemmas.{AddsJust-then, above_none, above_append}
 
 -- what a read of a disk's file gives
-pub gives_from_reads : (file : List ℕ) (at : ℕ) (buf : List ℕ) (n : ℕ) → Reads file at buf n → Gives file at buf n
+pub gives_from_reads : (file : List ℕ) (at : ℕ) (buf : List ℕ) (n : ℕ) → ReadsBytes file at buf n → GivesBytes file at buf n
 gives_from_reads file at buf n r = record { within = omega (arith, r.count); bytes = r.bytes; some = λ room more. omega (arith, r.count, room, more) }
 
 -- ---- faults
@@ -30,10 +30,10 @@ copy_cause rose P file (edges.Text line kind) not_read bad = record { file_is = 
 copy_cause rose P file edges.NoMemory not_read bad = tt
 
 -- ---- gathering
-pub Gathers-none : (n : Normal) (a : Gathered) → Gathers n [] a a
+pub Gathers-none : (n : Normal) (a : Gathered) → GathersEdges n [] a a
 Gathers-none n a = record { lo = refl; hi = refl; given = above_none n a.lo a.hi a.given; vertices = omega arith }
 
-pub Gathers-then : (n : Normal) (xs ys : List Edge) (a b c : Gathered) → Gathers n xs a b → Gathers n ys b c → Gathers n (xs ++ ys) a c
+pub Gathers-then : (n : Normal) (xs ys : List Edge) (a b c : Gathered) → GathersEdges n xs a b → GathersEdges n ys b c → GathersEdges n (xs ++ ys) a c
 Gathers-then n xs ys a b c p q =
     let here = subst (λ (hi : ℕ). AddsJust (IsAboveIn n a.lo hi ys) b.given c.given) p.hi (subst (λ (lo : ℕ). AddsJust (IsAboveIn n lo b.hi ys) b.given c.given) p.lo q.given) in
     record {
@@ -46,13 +46,13 @@ Gathers-then n xs ys a b c p q =
 -- the text so far is read, and what its lines that have ended give is gathered
 pub record IsGathering (n : Normal) (P : List ℕ → Type 0) (first now : Gathered) (text : List ℕ) (found : List Edge) : Type 0 where
   pub read : IsReadTo P first.reader now.reader text found
-  pub gathers : Gathers n found first now
+  pub gathers : GathersEdges n found first now
 
 pub gathering_start : (n : Normal) (P : List ℕ → Type 0) (g : Gathered) → g.reader.place ≡ 0 → IsGathering n P g g [] []
 gathering_start n P g start = record { read = reads_start P g.reader [] start refl; gathers = Gathers-none n g }
 
 -- one piece more
-pub gathering_on : (n : Normal) (P : List ℕ → Type 0) (first now after : Gathered) (text : List ℕ) (found : List Edge) (place k : ℕ) (buf : List ℕ) → now.reader.place ≡ place → ((f : List ℕ) → P f → Gives f place buf k) → k ≤ length buf → IsGathering n P first now text found
+pub gathering_on : (n : Normal) (P : List ℕ → Type 0) (first now after : Gathered) (text : List ℕ) (found : List Edge) (place k : ℕ) (buf : List ℕ) → now.reader.place ≡ place → ((f : List ℕ) → P f → GivesBytes f place buf k) → k ≤ length buf → IsGathering n P first now text found
     → (t : GathersPiece n (take k buf) now after) → IsGathering n P first after (text ++ take k buf) (found ++ t.found)
 gathering_on n P first now after text found place k buf here gives few c t =
     record {

@@ -16,7 +16,7 @@ pub record Gathered : Type 0 where
   pub vertices : ℕ
 
 -- edges were found, and what they give in the interval was added
-pub record Gathers (n : Normal) (found : List Edge) (old new : Gathered) : Type 0 where
+pub record GathersEdges (n : Normal) (found : List Edge) (old new : Gathered) : Type 0 where
   pub lo : new.lo ≡ old.lo
   pub hi : new.hi ≡ old.hi
   pub given : AddsJust (IsAboveIn n old.lo old.hi found) old.given new.given
@@ -25,7 +25,7 @@ pub record Gathers (n : Normal) (found : List Edge) (old new : Gathered) : Type 
 -- a piece was read, and what its lines give was added
 pub record GathersPiece (n : Normal) (piece : List ℕ) (old new : Gathered) : Type 0 where
   pub found : List Edge
-  pub gathers : Gathers n found old new
+  pub gathers : GathersEdges n found old new
   pub is_open : new.reader.is_open ≡ true
   pub place : new.reader.place ≡ old.reader.place + length piece
   pub short : old.reader.place ≤ LONGEST_EDGES + 4097 → new.reader.place ≤ LONGEST_EDGES + 4097
@@ -36,6 +36,6 @@ pub record GathersPiece (n : Normal) (piece : List ℕ) (old new : Gathered) : T
 -- the end was read, and what a last line gives was added
 pub record GathersEnd (n : Normal) (old new : Gathered) : Type 0 where
   pub found : List Edge
-  pub gathers : Gathers n found old new
+  pub gathers : GathersEdges n found old new
   pub reads : (names : List (List ℕ)) (text : List ℕ) (front : List Edge) → IsFed 0 names text old.reader front
       → ReadsEdges 0 names text (front ++ found) new.reader.table

@@ -12,7 +12,7 @@ use Rattle.partition_file.specs.Spelling.{Part}
 use Rattle.store_fault.specs.declared.fault.StoreFault.{StoreFault}
 use Rattle.store_fault.specs.declared.fault.StoreFault.TheVariants.{BadStore, DiskFault, NoMemory}
 use Rattle.import_text.specs.Given.{AreGiven, IsAboveIn}
-use Rattle.import_text.specs.Gathered.{Gathered, Gathers}
+use Rattle.import_text.specs.Gathered.{Gathered, GathersEdges}
 
 -- the fault of the copy in this file that was read with this fault
 abbrev pub copy_fault : ℕ → EdgesFault → StoreFault
@@ -27,7 +27,7 @@ pub record GathersFile (n : Normal) (names : List (List ℕ)) (tells : Type 0) (
   pub reads : ReadsEdges 0 names text found new.reader.table
   pub is_file : tells → text ≡ file
   pub len_is : length text ≡ len
-  pub gathers : Gathers n found old new
+  pub gathers : GathersEdges n found old new
 
 -- a text of this length without a fault, whose labels all have numbers and whose vertices are below a number
 pub record IsGoodCopy (labels : List (List ℕ)) (len vertices : ℕ) (text : List ℕ) : Type 0 where

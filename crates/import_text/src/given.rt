@@ -4,7 +4,7 @@ ghost use Rattle.graph_words.specs.declared.types.Edge.{Edge as AnEdge};
 ghost use Rattle.graph_words.specs.Reach.{IsAscending};
 ghost use Rattle.normal_law.specs.NormalForm.{normal_form};
 ghost use Rattle.closing_machine.specs.Rounds.{all_born};
-ghost use Rattle.plain_closing.specs.Begin.{IsBetween};
+ghost use Rattle.plain_closing.specs.Begin.{IsEdgeBetween};
 ghost use Rattle.import_text.specs.Given.{AddsJust, IsAboveIn, IsLoopIn};
 
 use graph_words::{Born, Edge, LabelId, Vertex};
@@ -18,7 +18,7 @@ fn push_each(
     labels: &[LabelId],
     dst: Vertex,
 ) -> Result<(), AllocError>
-    ensures { OnOk result (AddsJust (IsBetween src labels.now dst) edges.old.items edges.new.items) }
+    ensures { OnOk result (AddsJust (IsEdgeBetween src labels.now dst) edges.old.items edges.new.items) }
 {
     for label in labels {
         edges.push(Edge {

@@ -7,7 +7,7 @@ ghost use Rattle.graph_words.specs.Text.{distinct};
 ghost use Rattle.normal_law.specs.NormalForm.{normal_form};
 ghost use Rattle.edge_text.specs.EdgesText.{edges_fault};
 ghost use Rattle.edge_text.specs.Feed.{IsFed};
-ghost use Rattle.partition_file.specs.Spelling.{Fits};
+ghost use Rattle.partition_file.specs.Spelling.{FitsPart};
 ghost use Rattle.store_fault.specs.Faults.{why_of};
 ghost use Rattle.store_fault.specs.declared.fault.StoreFault.TheVariants.{BadStore};
 ghost use Rattle.import_text.specs.GivenPart.{copy_fault as fault_of_copy, GathersCopy, GathersFile, GivesPart, IsGoodCopy, expect_given};
@@ -138,7 +138,7 @@ pub fn given_edges<D: Disk>(
     requires rules { All (λ r. r.left.0 < length copied.now.labels) normal.now }
     ensures given { IfOk result (GivesPart (normal_form normal.now) copied.now.labels copied.now.len copied.now.vertices span.0 span.1
         (IsTrue D.tells) (D.seen disk.old copied.now.file)) }
-    ensures fits { IfOk result (Fits (expect_given span.0 span.1 copied.now.vertices (length copied.now.labels)
+    ensures fits { IfOk result (FitsPart (expect_given span.0 span.1 copied.now.vertices (length copied.now.labels)
         (normal_form normal.now).fresh)) }
     ensures cause { HasReason why_of (on_disk D.Disk disk.old disk.new (BlamesText (IsTrue D.tells
         → IsGoodCopy copied.now.labels copied.now.len copied.now.vertices (D.seen disk.old copied.now.file) → ⊥) copied.now.file)) result }

@@ -1,7 +1,7 @@
 //! The outside as traits: files that are read by name, and a sink that takes bytes.
 ghost use Rattle.std.specs.Prelude.{◌≡◌, ◌+◌, ◌<◌, ◌≤◌, ◌^◌, ℕ, List, Option, Some, length, IfOk};
 ghost use Rattle.faults.specs.Counts.{HasCause};
-ghost use Rattle.io_edge.specs.Devices.{Gives, Takes};
+ghost use Rattle.io_edge.specs.Devices.{GivesBytes, Takes};
 
 /// A call of the outside has failed. The count of faults of what was called says so too.
 #[derive(Clone, Copy, Debug, PartialEq, Eq)]
@@ -25,7 +25,7 @@ pub trait Inputs {
     fn read(&mut self, name: &str, at: u64, buf: &mut [u8]) -> Result<usize, Failed>
         requires { at + length buf.old < 2 ^ 64 }
         ensures count { IfOk result (λ n. n ≤ length buf.new) }
-        ensures bytes { IfOk result (λ n. (file : List ℕ) → told self.old name.now ≡ Some file → Gives file at buf.new n) }
+        ensures bytes { IfOk result (λ n. (file : List ℕ) → told self.old name.now ≡ Some file → GivesBytes file at buf.new n) }
         ensures kept { told self.new ≡ told self.old }
         ensures others { (other : List ℕ) → faults self.old other ≤ faults self.new other }
         ensures cause { HasCause (faults self.old name.now) (faults self.new name.now) result };

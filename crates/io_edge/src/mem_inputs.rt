@@ -1,7 +1,7 @@
 //! Inputs in memory, of which chosen calls fail.
 ghost use Rattle.std.specs.Prelude.{◌≡◌, ◌⊎◌, ◌+◌, ◌-◌, ◌<◌, ◌≤◌, ◌^◌, ◌↔◌, ℕ, List, [], Option, Some, None, length, Contains, IfOk, IsErr, is_ok};
 ghost use Rattle.faults.specs.Counts.{HasCause};
-ghost use Rattle.io_edge.specs.Devices.{Gives};
+ghost use Rattle.io_edge.specs.Devices.{GivesBytes};
 ghost use Rattle.io_edge.specs.MemFiles.{first_named, after_read, read_len};
 
 use crate::named_bytes::{NamedBytes, copy_part, find_file};
@@ -59,7 +59,7 @@ impl Inputs for MemInputs {
     fn read(&mut self, name: &str, at: u64, buf: &mut [u8]) -> Result<usize, Failed>
         requires { at + length buf.old < 2 ^ 64 }
         ensures count { IfOk result (λ n. n ≤ length buf.new) }
-        ensures bytes { IfOk result (λ n. (file : List ℕ) → first_named self.old.files name.now ≡ Some file → Gives file at buf.new n) }
+        ensures bytes { IfOk result (λ n. (file : List ℕ) → first_named self.old.files name.now ≡ Some file → GivesBytes file at buf.new n) }
         ensures kept { first_named self.new.files ≡ first_named self.old.files }
         ensures others { self.old.faults ≤ self.new.faults }
         ensures cause { HasCause self.old.faults self.new.faults result }
@@ -89,7 +89,7 @@ fn read_call(
 ) -> Result<usize, Failed>
     ensures failed { IsErr result ↔ (Contains failing.now call ⊎ (first_named files.now name.now ≡ None)) }
     ensures bytes { IfOk result (λ n. (file : List ℕ) → first_named files.now name.now ≡ Some file
-        → Gives file at buf.new n × (n ≡ read_len file at (length buf.new))) }
+        → GivesBytes file at buf.new n × (n ≡ read_len file at (length buf.new))) }
     ensures count { IfOk result (λ n. n ≤ length buf.new) }
 {
     if failing.contains(&call) {

@@ -1,7 +1,7 @@
 //! A name and its bytes.
 ghost use Rattle.std.specs.Prelude.{◌≡◌, length};
 ghost use Rattle.std.specs.Option.{option_copied};
-ghost use Rattle.io_edge.specs.Devices.{Gives};
+ghost use Rattle.io_edge.specs.Devices.{GivesBytes};
 ghost use Rattle.io_edge.specs.MemFiles.{first_named, read_len};
 
 use std::marker::Model;
@@ -35,7 +35,7 @@ pub(crate) fn find_file<'a>(files: &'a [NamedBytes], name: &str) -> Option<&'a [
 /// Copies the bytes from a place on, as many as there are and fit.
 pub(crate) fn copy_part(bytes: &[u8], at: u64, buf: &mut [u8]) -> usize
     ensures count { result ≡ read_len bytes.now at (length buf.new) }
-    ensures bytes { Gives bytes.now at buf.new result }
+    ensures bytes { GivesBytes bytes.now at buf.new result }
 {
     if at >= bytes.len() as u64 {
         return 0;

@@ -1,7 +1,7 @@
 //! Inputs in memory that never fail.
 ghost use Rattle.std.specs.Prelude.{◌≡◌, ◌+◌, ◌-◌, ◌<◌, ◌≤◌, ◌^◌, ℕ, List, Option, Some, length, IfOk, IsOk};
 ghost use Rattle.faults.specs.Counts.{HasCause};
-ghost use Rattle.io_edge.specs.Devices.{Gives};
+ghost use Rattle.io_edge.specs.Devices.{GivesBytes};
 ghost use Rattle.io_edge.specs.MemFiles.{first_named, bytes_or_none, sure_bytes, read_len};
 
 use crate::named_bytes::{NamedBytes, copy_part, find_file};
@@ -41,7 +41,7 @@ impl Inputs for SureInputs {
     fn read(&mut self, name: &str, at: u64, buf: &mut [u8]) -> Result<usize, Failed>
         requires { at + length buf.old < 2 ^ 64 }
         ensures count { IfOk result (λ n. n ≤ length buf.new) }
-        ensures bytes { IfOk result (λ n. (file : List ℕ) → sure_bytes self.old name.now ≡ Some file → Gives file at buf.new n) }
+        ensures bytes { IfOk result (λ n. (file : List ℕ) → sure_bytes self.old name.now ≡ Some file → GivesBytes file at buf.new n) }
         // It reads all that is there and fits.
         ensures whole { IfOk result (λ n. n ≡ read_len (bytes_or_none (first_named self.old name.now)) at (length buf.new)) }
         ensures sure { IsOk result }

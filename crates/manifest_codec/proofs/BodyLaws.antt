@@ -16,7 +16,7 @@ use Rattle.manifest_codec.specs.declared.types.Manifest.{Manifest}
 use Rattle.manifest_codec.specs.declared.types.ManifestFault.{ManifestFault}
 use Rattle.manifest_codec.specs.Rules.{newest_version, at_most, is_label_count, is_part_count, is_end, widths, count_limits, is_reached}
 use Rattle.manifest_codec.specs.FieldsRead.{◌>>=◌, field_at, head_at, labels_at, parts_at, cells_at, front_at, table_at, manifest_of, body_at}
-use Rattle.manifest_codec.specs.Spelling.{Spells, head_of, newest_in, head_bytes, label_bytes, parts_bytes, spelling}
+use Rattle.manifest_codec.specs.Spelling.{SpellsManifest, head_of, newest_in, head_bytes, label_bytes, parts_bytes, spelling}
 use Rattle.manifest_codec.proofs.Kept.{Kept, HeadFits, LabelsFit, CellsFit, PartsFit}
 use Rattle.manifest_codec.proofs.FieldLaws.{IsBytes, Takes, Takes-then, ReadsField, wide2, step_ok, ok_is, test_ok, field_takes, field_again, head_takes, head_again}
 use Rattle.manifest_codec.proofs.Tables.{length-limits}
@@ -257,20 +257,20 @@ left_of bytes x t = ap length t ∙ length-append (spelling newest_version x.0) 
 pub rest_is_left : (bytes : List ℕ) (x : Manifest × List ℕ) → IsBytes bytes → body_at bytes ≡ Ok x → length x.1 ≤ length bytes
 rest_is_left bytes x fits e = omega (arith, left_of bytes x (body_takes bytes x fits e).0.parts)
 
-pub ok_found : (bytes : List ℕ) (x : Manifest × List ℕ) → IsBytes bytes → body_at bytes ≡ Ok x → Kept x.0 × Spells bytes x.0 (length bytes - length x.1)
+pub ok_found : (bytes : List ℕ) (x : Manifest × List ℕ) → IsBytes bytes → body_at bytes ≡ Ok x → Kept x.0 × SpellsManifest bytes x.0 (length bytes - length x.1)
 ok_found bytes x fits e =
     let t = body_takes bytes x fits e in
     let len : length bytes ≡ length (spelling newest_version x.0) + length x.1 = left_of bytes x t.0.parts in
     (t.1, (newest_version, omega arith, ap (take (length bytes - length x.1)) t.0.parts ∙ take_at (spelling newest_version x.0) x.1 (length bytes - length x.1) (omega arith)))
 
-pub again_at : (bytes : List ℕ) (m : Manifest) (n : ℕ) → Kept m → Spells bytes m n → body_at bytes ≡ Ok (m, drop n bytes)
+pub again_at : (bytes : List ℕ) (m : Manifest) (n : ℕ) → Kept m → SpellsManifest bytes m n → body_at bytes ≡ Ok (m, drop n bytes)
 again_at bytes m n fits (First, within, spelled) =
     ap body_at (sym (take-append-drop n bytes) ∙ ap (λ (t : List ℕ). t ++ drop n bytes) spelled) ∙ body_again m (drop n bytes) fits
 
-pub ok_only : (bytes : List ℕ) (x : Manifest × List ℕ) (m : Manifest) (n : ℕ) → body_at bytes ≡ Ok x → Kept m → Spells bytes m n → (x.0 ≡ m) × (length bytes - length x.1 ≡ n)
+pub ok_only : (bytes : List ℕ) (x : Manifest × List ℕ) (m : Manifest) (n : ℕ) → body_at bytes ≡ Ok x → Kept m → SpellsManifest bytes m n → (x.0 ≡ m) × (length bytes - length x.1 ≡ n)
 ok_only bytes x m n e fits spells =
     let same : x ≡ (m, drop n bytes) = ok_is x (m, drop n bytes) (sym e ∙ again_at bytes m n fits spells) in
     (ap (λ (y : Manifest × List ℕ). y.0) same, ap (λ (y : Manifest × List ℕ). length bytes - length y.1) same ∙ omega (arith, length-drop n bytes, spells.1))
 
-pub err_only : (bytes : List ℕ) (d : Broken) (m : Manifest) (n : ℕ) → body_at bytes ≡ Err d → Kept m → Spells bytes m n → ⊥
+pub err_only : (bytes : List ℕ) (d : Broken) (m : Manifest) (n : ℕ) → body_at bytes ≡ Err d → Kept m → SpellsManifest bytes m n → ⊥
 err_only bytes d m n e fits spells = let h = again_at bytes m n fits spells in absurd cc

@@ -18,7 +18,7 @@ use Rattle.manifest_codec.specs.declared.types.ManifestFault.{ManifestFault}
 use Rattle.manifest_codec.specs.FieldsRead.{◌>>=◌, Read, broken, number_at, field_at, head_at, label_at, labels_at, part_at, parts_at, cells_at, front_at, table_at, body_at, counted}
 use Rattle.manifest_codec.specs.Rules.{newest_version, is_magic, is_generation}
 use Rattle.manifest_codec.proofs.FieldLaws.{step_ok, test_ok, ok_is}
-use Rattle.manifest_codec.specs.Prefix.{IsCut, Settles}
+use Rattle.manifest_codec.specs.Prefix.{EndsInField, Settles}
 use Rattle.manifest_codec.specs.declared.types.Version.{Version}
 use Rattle.manifest_codec.specs.declared.types.Version.TheVariants.{First}
 
@@ -205,7 +205,7 @@ settles bytes behind = counted_goes (body_at bytes) (body_at (bytes ++ behind)) 
     ok : Manifest → ℕ → Result (Manifest × ℕ) ManifestFault
     ok m n = Ok (m, n)
 
-    counted_goes : (now later : Read Manifest) → Goes behind now later → IsCut (counted (length bytes) now) ⊎ (counted (length (bytes ++ behind)) later ≡ counted (length bytes) now)
+    counted_goes : (now later : Read Manifest) → Goes behind now later → EndsInField (counted (length bytes) now) ⊎ (counted (length (bytes ++ behind)) later ≡ counted (length bytes) now)
     counted_goes (Ok x) later is =
         let left : length (bytes ++ behind) - length (x.1 ++ behind) ≡ length bytes - length x.1 = omega (arith, length-append bytes behind, length-append x.1 behind) in
         inr (ap (counted (length (bytes ++ behind))) is ∙ ap (ok x.0) left)

@@ -18,7 +18,7 @@ use Rattle.manifest_codec.specs.declared.types.PartEntry.{PartEntry}
 use Rattle.manifest_codec.specs.declared.types.Head.{Head}
 use Rattle.manifest_codec.specs.declared.types.Manifest.{Manifest}
 use Rattle.manifest_codec.specs.Rules.{at_most, is_part_count, is_end, is_file, widths, count_limits}
-use Rattle.manifest_codec.specs.Spelling.{Cover, Fits, width, head_of, newest_in}
+use Rattle.manifest_codec.specs.Spelling.{Cover, FitsManifest, width, head_of, newest_in}
 use Rattle.dest_map.specs.Table.{counts_of}
 use Rattle.pair_sched.specs.Marks.{joined_of}
 use Rattle.manifest_codec.proofs.Tables.{length-widths, length-limits, limit_at, entry_at, place_within, by_rows, all_from_places, places_from_all}
@@ -214,7 +214,7 @@ places_from_cells (limit ∷ limits) (c ∷ cells) fits zero lt = at_most_says l
 places_from_cells (limit ∷ limits) (c ∷ cells) fits (suc n) lt = places_from_cells limits cells fits.2 n (omega (arith, lt))
 
 -- the counts of a map within their limits, by rows and columns and in one list
-counts_from_words : (m : Manifest) → Fits m → Short (count_limits (widths 0 m.parts)) → CellsFit (count_limits (widths 0 m.parts)) m.map.1
+counts_from_words : (m : Manifest) → FitsManifest m → Short (count_limits (widths 0 m.parts)) → CellsFit (count_limits (widths 0 m.parts)) m.map.1
 counts_from_words m f short =
     let ws = widths 0 m.parts in
     let k = length m.parts in
@@ -250,7 +250,7 @@ words_from_marks (suc k) round (n ∷ cells) fits =
     let more = words_from_marks k round cells fits.2 in
     (ap suc more.0, (at_most_says round n fits.0, more.1))
 
-joined_from_words : (m : Manifest) → Fits m → AllByRecursion (λ n. n ≤ m.round) m.marks.1
+joined_from_words : (m : Manifest) → FitsManifest m → AllByRecursion (λ n. n ≤ m.round) m.marks.1
 joined_from_words m f =
     let k = length m.parts in
     let each : (i j : ℕ) → i < k → j < k → get_or m.marks.1 (i * k + j) 0 ≤ m.round = λ i j li lj. subst (λ (n : ℕ). n ≤ m.round) (entry_at k m.marks.0 m.marks.1 i j f.marks.size lj) (f.joined i j li lj) in
@@ -263,7 +263,7 @@ words_from_joined m f long all i j li lj =
 
 -- ---- the whole
 
-pub kept_from_words : (m : Manifest) → Fits m → Kept m
+pub kept_from_words : (m : Manifest) → FitsManifest m → Kept m
 kept_from_words m f =
     let small = widths_small m.vertices 0 m.parts f.vertices f.cover in
     record {
@@ -287,7 +287,7 @@ kept_from_words m f =
       reached = at_most_yes (1 + sum m.map.1) m.round f.reached;
     }
 
-pub words_from_kept : (m : Manifest) → Kept m → Fits m
+pub words_from_kept : (m : Manifest) → Kept m → FitsManifest m
 words_from_kept m k =
     let t = table_from_labels [] m.labels (λ i j d lt within. absurd (omega arith)) (λ i d lt. absurd (omega arith)) k.labels in
     let p = words_from_parts (head_of m) 0 [] m.parts (newest_in m) (λ i d lt. absurd (omega arith)) (λ i j d lt within. absurd (omega arith)) k.parts in
@@ -322,5 +322,5 @@ short_names : (names : List (List ℕ)) → AllByRecursion IsLabel names → All
 short_names [] labels = tt
 short_names (l ∷ names) labels = (labels.0.short, short_names names labels.1)
 
-pub labels_short : (m : Manifest) → Fits m → AllByRecursion (λ name. length name ≤ MOST_LABEL_BYTES) m.labels
+pub labels_short : (m : Manifest) → FitsManifest m → AllByRecursion (λ name. length name ≤ MOST_LABEL_BYTES) m.labels
 labels_short m f = short_names m.labels (recursion_from_All IsLabel m.labels f.labels.labels)

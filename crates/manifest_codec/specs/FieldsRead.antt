@@ -173,18 +173,18 @@ abbrev pub Fails : {Y : Type 0} → FieldError → Result Y Broken → Type 0
 Fails (errors.Broken b) read = read ≡ Err b
 Fails errors.NoMemory read = Unit {0}
 
-abbrev pub Gives : {X Y : Type 0} → (X → Y) → Result X FieldError → Result Y Broken → Type 0
-Gives view (Ok x) read = read ≡ Ok (view x)
-Gives view (Err e) read = Fails e read
+abbrev pub GivesField : {X Y : Type 0} → (X → Y) → Result X FieldError → Result Y Broken → Type 0
+GivesField view (Ok x) read = read ≡ Ok (view x)
+GivesField view (Err e) read = Fails e read
 
 -- a decoder's answer is what reading gives, unless memory ran out
-abbrev pub Decodes : Result (Manifest × ℕ) ManifestError → Result (Manifest × ℕ) ManifestFault → Type 0
-Decodes (Ok x) read = read ≡ Ok x
-Decodes (Err (faults.Fault f)) read = read ≡ Err f
-Decodes (Err faults.NoMemory) read = Unit {0}
+abbrev pub DecodesManifest : Result (Manifest × ℕ) ManifestError → Result (Manifest × ℕ) ManifestFault → Type 0
+DecodesManifest (Ok x) read = read ≡ Ok x
+DecodesManifest (Err (faults.Fault f)) read = read ≡ Err f
+DecodesManifest (Err faults.NoMemory) read = Unit {0}
 
 -- the answer is this manifest with so many bytes, unless memory ran out
-abbrev pub Answers : Result (Manifest × ℕ) ManifestError → Manifest → ℕ → Type 0
-Answers (Ok x) m n = (x.0 ≡ m) × (x.1 ≡ n)
-Answers (Err (faults.Fault f)) m n = ⊥
-Answers (Err faults.NoMemory) m n = Unit {0}
+abbrev pub AnswersManifest : Result (Manifest × ℕ) ManifestError → Manifest → ℕ → Type 0
+AnswersManifest (Ok x) m n = (x.0 ≡ m) × (x.1 ≡ n)
+AnswersManifest (Err (faults.Fault f)) m n = ⊥
+AnswersManifest (Err faults.NoMemory) m n = Unit {0}

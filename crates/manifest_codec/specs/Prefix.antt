@@ -6,10 +6,10 @@ use Rattle.manifest_codec.specs.declared.types.ManifestFault.{ManifestFault}
 use Rattle.manifest_codec.specs.FieldsRead.{reading}
 
 -- the bytes end within a field
-abbrev pub IsCut : Result (Manifest × ℕ) ManifestFault → Type 0
-IsCut (Ok x) = ⊥
-IsCut (Err f) = f.kind ≡ Short
+abbrev pub EndsInField : Result (Manifest × ℕ) ManifestFault → Type 0
+EndsInField (Ok x) = ⊥
+EndsInField (Err f) = f.kind ≡ Short
 
 -- the bytes end within a field, or whatever stands behind them changes nothing
 abbrev pub Settles : List ℕ → List ℕ → Type 0
-Settles bytes behind = IsCut (reading bytes) ⊎ (reading (bytes ++ behind) ≡ reading bytes)
+Settles bytes behind = EndsInField (reading bytes) ⊎ (reading (bytes ++ behind) ≡ reading bytes)

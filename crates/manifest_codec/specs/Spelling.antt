@@ -57,8 +57,8 @@ spelling v m =
     ++ flat_map (little_bytes 8) m.marks.1
 
 -- the first n bytes are the spelling of the manifest in some version
-abbrev pub Spells : List ℕ → Manifest → ℕ → Type 0
-Spells bytes m n = (v : Version) × (n ≤ length bytes) × (take n bytes ≡ spelling v m)
+abbrev pub SpellsManifest : List ℕ → Manifest → ℕ → Type 0
+SpellsManifest bytes m n = (v : Version) × (n ≤ length bytes) × (take n bytes ≡ spelling v m)
 
 -- how many bytes a spelling has at the most
 abbrev pub longest : ℕ
@@ -87,7 +87,7 @@ pub record AreMarks (k : ℕ) (marks : ℕ × List ℕ × List ℕ) : Type 0 whe
   pub births : length marks.2 ≡ k
 
 -- a manifest keeps the rules
-pub record Fits (m : Manifest) : Type 0 where
+pub record FitsManifest (m : Manifest) : Type 0 where
   pub generation : m.generation ≤ 2
   pub round : 1 ≤ m.round
   pub rounds : m.round < 2 ^ 64

@@ -1,7 +1,7 @@
 ghost use Rattle.std.specs.Prelude.{◌≡◌, ◌≤◌, ◌<◌, ◌-◌, ◌*◌, ◌++◌, ◌∷◌, ℕ, List, [], length, map, sum, replicate, All, IfOk, OnOk};
 ghost use Rattle.std.specs.List.{flat_map};
 ghost use Rattle.manifest_codec.specs.Rules;
-ghost use Rattle.manifest_codec.specs.FieldsRead.{Gives, cells_at};
+ghost use Rattle.manifest_codec.specs.FieldsRead.{GivesField, cells_at};
 
 use crate::fields::{broken_at, u64_at};
 use crate::types::{FieldError, PartEntry};
@@ -15,7 +15,7 @@ pub(crate) fn cells_of<'a>(
     limits: &[u64],
     bytes: &'a [u8],
 ) -> Result<(Vec<u64>, &'a [u8]), FieldError>
-    ensures { Gives (λ x. (x.0.items, x.1.now)) result (cells_at kind limits.now [] bytes.now) }
+    ensures { GivesField (λ x. (x.0.items, x.1.now)) result (cells_at kind limits.now [] bytes.now) }
 {
     let mut cells = Vec::new(alloc);
     let mut rest = bytes;

@@ -2,8 +2,8 @@ ghost use Rattle.std.specs.Prelude.{◌≡◌, ◌≤◌, ◌<◌, ◌-◌, ◌*
 ghost use Rattle.faults.specs.declared.form_kind.FormKind.TheVariants.{BadCount, BadMark};
 ghost use Rattle.manifest_codec.specs.declared.types.Manifest.{Manifest as AManifest};
 ghost use Rattle.manifest_codec.specs.Rules.{widths, count_limits};
-ghost use Rattle.manifest_codec.specs.Spelling.{Fits, spelling, Spells};
-ghost use Rattle.manifest_codec.specs.FieldsRead.{Gives, Decodes, Answers, reading, body_at, front_at, table_at, cells_at};
+ghost use Rattle.manifest_codec.specs.Spelling.{FitsManifest, spelling, SpellsManifest};
+ghost use Rattle.manifest_codec.specs.FieldsRead.{GivesField, DecodesManifest, AnswersManifest, reading, body_at, front_at, table_at, cells_at};
 
 use crate::cells::{cells_of, is_reached, limits_of, repeated, widths_of};
 use crate::fields::{broken_at, head_of, u16_at};
@@ -21,7 +21,7 @@ use std::alloc::Global;
 /// The head and the labels.
 #[tactic(auto, unfolding(crate::specs::FieldsRead::front_at))]
 fn front_of(alloc: Global, bytes: &[u8]) -> Result<((Head, LabelTable), &[u8]), FieldError>
-    ensures { Gives (λ x. (x.0, x.1.now)) result (front_at bytes.now) }
+    ensures { GivesField (λ x. (x.0, x.1.now)) result (front_at bytes.now) }
 {
     let (head, at_count) = head_of(bytes)?;
     let (count, rest) = u16_at(at_count)?;
@@ -39,7 +39,7 @@ fn table_of<'a>(
     head: &Head,
     bytes: &'a [u8],
 ) -> Result<((PartList, Vec<u64>), &'a [u8]), FieldError>
-    ensures { Gives (λ x. ((x.0.0, x.0.1.items), x.1.now)) result (table_at head.now bytes.now) }
+    ensures { GivesField (λ x. ((x.0.0, x.0.1.items), x.1.now)) result (table_at head.now bytes.now) }
 {
     let (count, rest) = u16_at(bytes)?;
     if count > 256 || u32::from(count) > head.vertices || (count == 0 && head.vertices != 0) {
@@ -51,7 +51,7 @@ fn table_of<'a>(
 /// The whole body.
 #[tactic(auto, unfolding(crate::specs::FieldsRead::body_at))]
 fn body_of(alloc: Global, bytes: &[u8]) -> Result<(Manifest, &[u8]), FieldError>
-    ensures { Gives (λ x. (x.0, x.1.now)) result (body_at bytes.now) }
+    ensures { GivesField (λ x. (x.0, x.1.now)) result (body_at bytes.now) }
 {
     let ((head, labels), rest) = front_of(alloc, bytes)?;
     let ((parts, newest), rest) = table_of(alloc, &head, rest)?;
@@ -87,11 +87,11 @@ fn body_of(alloc: Global, bytes: &[u8]) -> Result<(Manifest, &[u8]), FieldError>
 /// comes exactly where the bytes begin with no spelling of a manifest that keeps the rules of the format.
 pub fn decode(alloc: Global, bytes: &[u8]) -> Result<(Manifest, usize), ManifestError>
     // What is decoded keeps the rules, and the bytes begin with its spelling.
-    ensures found { IfOk result (λ x. Fits x.0 × Spells bytes.now x.0 x.1) }
+    ensures found { IfOk result (λ x. FitsManifest x.0 × SpellsManifest bytes.now x.0 x.1) }
     // What keeps the rules and is spelled so is decoded, unless memory runs out.
-    ensures only { (m : AManifest) (n : ℕ) → Fits m → Spells bytes.now m n → Answers result m n }
+    ensures only { (m : AManifest) (n : ℕ) → FitsManifest m → SpellsManifest bytes.now m n → AnswersManifest result m n }
     // Which field breaks its rule first.
-    ensures exact { Decodes result (reading bytes.now) }
+    ensures exact { DecodesManifest result (reading bytes.now) }
 {
     match body_of(alloc, bytes) {
         Ok((manifest, rest)) => Ok((manifest, bytes.len() - rest.len())),

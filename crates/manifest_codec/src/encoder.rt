@@ -3,7 +3,7 @@ ghost use Rattle.std.specs.List.{flat_map, AllByRecursion};
 ghost use Rattle.byteorder.specs.Endian.{little_bytes};
 ghost use Rattle.manifest_codec.specs.declared.types.Version.TheVariants.{First};
 ghost use Rattle.manifest_codec.specs.Rules.{newest_version};
-ghost use Rattle.manifest_codec.specs.Spelling.{Fits, spelling, head_of, head_bytes, label_bytes, part_bytes, parts_bytes};
+ghost use Rattle.manifest_codec.specs.Spelling.{FitsManifest, spelling, head_of, head_bytes, label_bytes, part_bytes, parts_bytes};
 
 use crate::types::{Manifest, PartEntry};
 use byteorder::{ByteOrder, LittleEndian};
@@ -105,7 +105,7 @@ fn put_cells(out: &mut Vec<u8>, cells: &[u64]) -> Result<(), AllocError>
 ///
 /// The longest has 1,117,709 bytes.
 pub fn encode(alloc: Global, m: &Manifest) -> Result<Vec<u8>, AllocError>
-    requires { Fits m.now }
+    requires { FitsManifest m.now }
     ensures { IfOk result (λ v. v.items ≡ spelling newest_version m.now) }
 {
     let mut out = Vec::new(alloc);

@@ -4,7 +4,7 @@ ghost use Rattle.manifest_codec.specs.declared.types.FieldError.{FieldError};
 ghost use Rattle.manifest_codec.specs.declared.types.Version.TheVariants.{First};
 ghost use Rattle.manifest_codec.specs.Rules as place;
 ghost use Rattle.manifest_codec.specs.Rules.{is_magic, magic_of, at_most};
-ghost use Rattle.manifest_codec.specs.FieldsRead.{Gives, Read, number_at, field_at, head_at, broken};
+ghost use Rattle.manifest_codec.specs.FieldsRead.{GivesField, Read, number_at, field_at, head_at, broken};
 
 use crate::format::{FIRST_MAGIC, LABELS_PLACE};
 use crate::types::{Broken, FieldError, Head, Version};
@@ -33,7 +33,7 @@ pub(crate) fn broken_at(bytes: &[u8], kind: FormKind) -> FieldError
 
 /// A number of one byte, and the bytes behind it.
 fn u8_at(bytes: &[u8]) -> Result<(u8, &[u8]), FieldError>
-    ensures { Gives (λ x. (x.0, x.1.now)) result (number_at 1 bytes.now) }
+    ensures { GivesField (λ x. (x.0, x.1.now)) result (number_at 1 bytes.now) }
 {
     if bytes.len() < 1 {
         return Err(broken_at(bytes, FormKind::Short));
@@ -44,7 +44,7 @@ fn u8_at(bytes: &[u8]) -> Result<(u8, &[u8]), FieldError>
 
 /// A number of 2 bytes.
 pub(crate) fn u16_at(bytes: &[u8]) -> Result<(u16, &[u8]), FieldError>
-    ensures { Gives (λ x. (x.0, x.1.now)) result (number_at 2 bytes.now) }
+    ensures { GivesField (λ x. (x.0, x.1.now)) result (number_at 2 bytes.now) }
 {
     if bytes.len() < 2 {
         return Err(broken_at(bytes, FormKind::Short));
@@ -54,7 +54,7 @@ pub(crate) fn u16_at(bytes: &[u8]) -> Result<(u16, &[u8]), FieldError>
 
 /// A number of 4 bytes.
 pub(crate) fn u32_at(bytes: &[u8]) -> Result<(u32, &[u8]), FieldError>
-    ensures { Gives (λ x. (x.0, x.1.now)) result (number_at 4 bytes.now) }
+    ensures { GivesField (λ x. (x.0, x.1.now)) result (number_at 4 bytes.now) }
 {
     if bytes.len() < 4 {
         return Err(broken_at(bytes, FormKind::Short));
@@ -64,7 +64,7 @@ pub(crate) fn u32_at(bytes: &[u8]) -> Result<(u32, &[u8]), FieldError>
 
 /// A number of 8 bytes.
 pub(crate) fn u64_at(bytes: &[u8]) -> Result<(u64, &[u8]), FieldError>
-    ensures { Gives (λ x. (x.0, x.1.now)) result (number_at 8 bytes.now) }
+    ensures { GivesField (λ x. (x.0, x.1.now)) result (number_at 8 bytes.now) }
 {
     if bytes.len() < 8 {
         return Err(broken_at(bytes, FormKind::Short));
@@ -75,7 +75,7 @@ pub(crate) fn u64_at(bytes: &[u8]) -> Result<(u64, &[u8]), FieldError>
 /// The magic of the first version, and the numbers behind it.
 #[tactic(auto, unfolding(crate::specs::FieldsRead::head_at))]
 pub(crate) fn head_of(bytes: &[u8]) -> Result<(Head, &[u8]), FieldError>
-    ensures { Gives (λ x. (x.0, x.1.now)) result (head_at First bytes.now) }
+    ensures { GivesField (λ x. (x.0, x.1.now)) result (head_at First bytes.now) }
 {
     let (magic, at_generation) = u32_at(bytes)?;
     if magic != FIRST_MAGIC {

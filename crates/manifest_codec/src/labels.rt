@@ -1,7 +1,7 @@
 ghost use Rattle.std.specs.Prelude.{◌≡◌, ◌≤◌, ◌<◌, ◌++◌, ◌∷◌, ℕ, List, [], length, not};
 ghost use Rattle.graph_words.specs.Text.{is_label_word};
 ghost use Rattle.label_table.specs.Names.{has_name};
-ghost use Rattle.manifest_codec.specs.FieldsRead.{Gives, label_at, labels_at};
+ghost use Rattle.manifest_codec.specs.FieldsRead.{GivesField, label_at, labels_at};
 
 use crate::fields::broken_at;
 use crate::types::FieldError;
@@ -14,7 +14,7 @@ use std::alloc::Global;
 #[tactic(auto, unfolding(crate::specs::FieldsRead::label_at))]
 fn label_of<'a>(labels: &mut LabelTable, bytes: &'a [u8]) -> Result<&'a [u8], FieldError>
     requires { length labels.old < 1000 }
-    ensures { Gives (λ rest. (labels.new, rest.now)) result (label_at labels.old bytes.now) }
+    ensures { GivesField (λ rest. (labels.new, rest.now)) result (label_at labels.old bytes.now) }
 {
     let [len, rest @ ..] = bytes else {
         return Err(broken_at(bytes, FormKind::Short));
@@ -40,7 +40,7 @@ pub(crate) fn labels_of(
     bytes: &[u8],
 ) -> Result<(LabelTable, &[u8]), FieldError>
     requires { count ≤ 1000 }
-    ensures { Gives (λ x. (x.0, x.1.now)) result (labels_at count [] bytes.now) }
+    ensures { GivesField (λ x. (x.0, x.1.now)) result (labels_at count [] bytes.now) }
 {
     let mut labels = LabelTable::new(alloc);
     let mut rest = bytes;

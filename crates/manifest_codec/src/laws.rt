@@ -4,8 +4,8 @@ ghost use Rattle.manifest_codec.specs.declared.types.Manifest.{Manifest as AMani
 ghost use Rattle.manifest_codec.specs.declared.types.Version.{Version as AVersion};
 ghost use Rattle.manifest_codec.specs.declared.types.Version.TheVariants.{First};
 ghost use Rattle.manifest_codec.specs.Rules.{magic_of, newest_version};
-ghost use Rattle.manifest_codec.specs.Spelling.{Fits, longest, spelling, Spells};
-ghost use Rattle.manifest_codec.specs.FieldsRead.{Answers, reading, manifest_in};
+ghost use Rattle.manifest_codec.specs.Spelling.{FitsManifest, longest, spelling, SpellsManifest};
+ghost use Rattle.manifest_codec.specs.FieldsRead.{AnswersManifest, reading, manifest_in};
 
 use crate::decoder::decode;
 use crate::encoder::encode;
@@ -18,8 +18,8 @@ pub fn encode_then_decode(
     m: &Manifest,
     behind: &[u8],
 ) -> Result<(Manifest, usize), ManifestError>
-    requires { Fits m.now }
-    ensures { Answers result m.now (length (spelling newest_version m.now)) }
+    requires { FitsManifest m.now }
+    ensures { AnswersManifest result m.now (length (spelling newest_version m.now)) }
 {
     let Ok(mut bytes) = encode(alloc, m) else {
         return Err(ManifestError::NoMemory);
@@ -37,12 +37,12 @@ pub fn magics_are_spelled()
 
 /// What the bytes begin with is read, whatever stands behind it.
 pub fn spelling_is_read()
-    ensures { (m : AManifest) (bytes : List ℕ) (n : ℕ) → Fits m → Spells bytes m n → reading bytes ≡ Ok (m, n) }
+    ensures { (m : AManifest) (bytes : List ℕ) (n : ℕ) → FitsManifest m → SpellsManifest bytes m n → reading bytes ≡ Ok (m, n) }
 {}
 
 /// What is read keeps the rules, and the bytes begin with its spelling.
 pub fn reading_is_spelling()
-    ensures { (bytes : List ℕ) (x : AManifest × ℕ) → All (λ b. b < 256) bytes → reading bytes ≡ Ok x → Fits x.0 × Spells bytes x.0 x.1 }
+    ensures { (bytes : List ℕ) (x : AManifest × ℕ) → All (λ b. b < 256) bytes → reading bytes ≡ Ok x → FitsManifest x.0 × SpellsManifest bytes x.0 x.1 }
 {}
 
 /// A file that has a body behind its first byte has more than one byte.
@@ -52,10 +52,10 @@ pub fn has_bytes()
 
 /// No two manifests that keep the rules have one spelling in a version.
 pub fn no_shared_spelling()
-    ensures { (v : AVersion) (m other : AManifest) → Fits m → Fits other → spelling v m ≡ spelling v other → m ≡ other }
+    ensures { (v : AVersion) (m other : AManifest) → FitsManifest m → FitsManifest other → spelling v m ≡ spelling v other → m ≡ other }
 {}
 
 /// A spelling has at most `longest` bytes, which are 1,117,709.
 pub fn longest_spelling()
-    ensures { (v : AVersion) (m : AManifest) → Fits m → length (spelling v m) ≤ longest }
+    ensures { (v : AVersion) (m : AManifest) → FitsManifest m → length (spelling v m) ≤ longest }
 {}

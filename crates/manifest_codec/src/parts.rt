@@ -1,7 +1,7 @@
 ghost use Rattle.std.specs.Prelude.{◌≡◌, ◌≤◌, ◌<◌, ◌==◌, ℕ, List, [], length};
 ghost use Rattle.std.specs.List.{list_any};
 ghost use Rattle.manifest_codec.specs.Rules;
-ghost use Rattle.manifest_codec.specs.FieldsRead.{Gives, part_at, parts_at};
+ghost use Rattle.manifest_codec.specs.FieldsRead.{GivesField, part_at, parts_at};
 
 use crate::fields::{broken_at, u32_at, u64_at};
 use crate::types::{FieldError, Head, PartEntry, PartList};
@@ -24,7 +24,7 @@ fn part_of<'a>(
     before: &[PartEntry],
     bytes: &'a [u8],
 ) -> Result<((PartEntry, u64), &'a [u8]), FieldError>
-    ensures { Gives (λ x. (x.0, x.1.now)) result (part_at head.now left low before.now bytes.now) }
+    ensures { GivesField (λ x. (x.0, x.1.now)) result (part_at head.now left low before.now bytes.now) }
 {
     let (hi, at_file) = u32_at(bytes)?;
     if hi <= low || hi > head.vertices || (left == 0 && hi != head.vertices) {
@@ -48,7 +48,7 @@ pub(crate) fn parts_of<'a>(
     count: u16,
     bytes: &'a [u8],
 ) -> Result<((PartList, Vec<u64>), &'a [u8]), FieldError>
-    ensures { Gives (λ x. ((x.0.0, x.0.1.items), x.1.now)) result (parts_at head.now count 0 [] [] bytes.now) }
+    ensures { GivesField (λ x. ((x.0.0, x.0.1.items), x.1.now)) result (parts_at head.now count 0 [] [] bytes.now) }
 {
     let mut parts = PartList::new(alloc);
     let mut births = Vec::new(alloc);

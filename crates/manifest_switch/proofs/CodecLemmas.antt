@@ -7,8 +7,8 @@ use Rattle.manifest_codec.specs.declared.types.Manifest.{Manifest}
 use Rattle.manifest_codec.specs.declared.types.ManifestFault.{ManifestFault}
 use Rattle.manifest_codec.specs.FieldsRead.{reading, body_at, front_at, head_at}
 use Rattle.manifest_codec.specs.Rules.{newest_version}
-use Rattle.manifest_codec.specs.Spelling.{Fits, Spells, spelling}
-use Rattle.manifest_codec.specs.Prefix.{IsCut, Settles}
+use Rattle.manifest_codec.specs.Spelling.{FitsManifest, SpellsManifest, spelling}
+use Rattle.manifest_codec.specs.Prefix.{EndsInField, Settles}
 use Rattle.manifest_switch.specs.Slots.{body, value_of}
 use Rattle.manifest_switch.specs.Answers.{IsCutShort}
 
@@ -54,12 +54,12 @@ unfolding body
 staged-body file bytes m some says = ap (λ (l : List ℕ). value_of (reading l)) (drop-written file bytes some) ∙ ap value_of (says (drop (1 + length bytes) file))
 
 -- what the codec's law says of bytes that are a spelling
-pub says : (bytes : List ℕ) (m : Manifest) → ((m : Manifest) (bytes : List ℕ) (n : ℕ) → Fits m → Spells bytes m n → reading bytes ≡ Ok (m, n)) → Fits m → bytes ≡ spelling newest_version m → Says bytes m
+pub says : (bytes : List ℕ) (m : Manifest) → ((m : Manifest) (bytes : List ℕ) (n : ℕ) → FitsManifest m → SpellsManifest bytes m n → reading bytes ≡ Ok (m, n)) → FitsManifest m → bytes ≡ spelling newest_version m → Says bytes m
 says bytes m law fits is more = law m (bytes ++ more) (length bytes) fits (newest_version, omega (arith, length-append bytes more), take-append-le (length bytes) bytes more (omega arith) ∙ take_all (length bytes) bytes (omega arith) ∙ is)
 
 -- ---- the first bytes of a body
 
-cut-value : (r : Result (Manifest × ℕ) ManifestFault) → IsCut r → IsCutShort (value_of r)
+cut-value : (r : Result (Manifest × ℕ) ManifestFault) → EndsInField r → IsCutShort (value_of r)
 cut-value (Ok x) cut = cut
 cut-value (Err f) cut = cut
 

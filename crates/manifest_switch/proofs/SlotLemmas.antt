@@ -8,8 +8,8 @@ use Rattle.disk_model.specs.Crash.{From, Mixes}
 use Rattle.disk_model.specs.Sound.{length-written, written-here, written-above}
 use Rattle.manifest_codec.specs.declared.types.Manifest.{Manifest}
 use Rattle.manifest_codec.specs.declared.types.ManifestFault.{ManifestFault}
-use Rattle.manifest_switch.specs.Slots.{file_of, other, is_open, open_body, body, chosen, current_of, later_of, next_generation, is_loose, with_closed_gate, IsClosed}
-use Rattle.manifest_switch.specs.Steps.{MayClose, Keeps, Succeeds, IsReady, Opens, Stays, Switches}
+use Rattle.manifest_switch.specs.Slots.{file_of, other, is_open, open_body, body, chosen, current_of, later_of, next_generation, is_loose, with_closed_gate, IsClosedGate}
+use Rattle.manifest_switch.specs.Steps.{MayClose, Keeps, Succeeds, IsSlotReady, Opens, Stays, Switches}
 use Rattle.manifest_switch.specs.declared.slot.Slot.{Slot}
 use Rattle.manifest_switch.specs.declared.slot.Slot.TheVariants.{Zero, One}
 use Rattle.manifest_switch.specs.declared.slot.Found.{Found}
@@ -205,7 +205,7 @@ module _ (s : Slot) (images : Contents → Type 0) (seen d c : Contents) (image_
   ]
 
 -- a gate that needn't be written is closed
-pub tight-closed : (file : List ℕ) → is_loose file ≡ false → IsClosed file
+pub tight-closed : (file : List ℕ) → is_loose file ≡ false → IsClosedGate file
 unfolding is_loose
 tight-closed file tight =
     record {
@@ -213,26 +213,26 @@ tight-closed file tight =
       shut = λ one. grind (arith, nat_tests);
     }
 
-written_shut : (file : List ℕ) → IsClosed (written file 0 (0 ∷ []))
+written_shut : (file : List ℕ) → IsClosedGate (written file 0 (0 ∷ []))
 written_shut file =
     record {
       some = omega (arith, length-written file 0 (0 ∷ []));
       shut = let zero_byte : slice_index (written file 0 (0 ∷ [])) 0 ≡ 0 = written-here file 0 (0 ∷ []) 0 (omega arith) in omega (arith, zero_byte);
     }
 
-pub closed_gate : (file : List ℕ) → IsClosed (with_closed_gate file)
+pub closed_gate : (file : List ℕ) → IsClosedGate (with_closed_gate file)
 closed_gate file = by_gate (is_loose file) refl
   where
-    by_gate : (b : Bool) → is_loose file ≡ b → IsClosed (if b then written file 0 (0 ∷ []) else file)
+    by_gate : (b : Bool) → is_loose file ≡ b → IsClosedGate (if b then written file 0 (0 ∷ []) else file)
     by_gate true loose = written_shut file
     by_gate false tight = tight-closed file tight
 
-pub closed-shut : (file : List ℕ) → IsClosed file → is_open file ≡ false
+pub closed-shut : (file : List ℕ) → IsClosedGate file → is_open file ≡ false
 closed-shut file closed = shut-gate file closed.shut
 
 -- ---- writing behind a closed gate
 
-pub body_step : (s : Slot) (n : ℕ) (d c : Contents) → IsClosed (d (file_of s)) → TornIn (file_of s) 1 n d c → Keeps s d c
+pub body_step : (s : Slot) (n : ℕ) (d c : Contents) → IsClosedGate (d (file_of s)) → TornIn (file_of s) 1 n d c → Keeps s d c
 body_step s n d c closed torn =
     let gate : slice_index (c (file_of s)) 0 ≡ slice_index (d (file_of s)) 0 = torn.here.below 0 closed.some (omega arith) in
     let shut : slice_index (c (file_of s)) 0 ≢ 1 = λ one. closed.shut (sym gate ∙ one) in
@@ -243,7 +243,7 @@ body_step s n d c closed torn =
 pub opens_refl : (s : Slot) (c : Contents) → Opens s c c
 opens_refl s c = record { becomes = inl refl; others = λ f apart. refl }
 
-pub open_step : (s : Slot) (d c : Contents) → IsReady s d → TornIn (file_of s) 0 1 d c → Opens s d c
+pub open_step : (s : Slot) (d c : Contents) → IsSlotReady s d → TornIn (file_of s) 0 1 d c → Opens s d c
 open_step s d c ready torn =
     let long = body-long (d (file_of s)) ready.next ready.body_is in
     let len : length (c (file_of s)) ≡ length (d (file_of s)) = omega (arith, torn.here.no_shorter, torn.here.no_longer, long) in

@@ -4,15 +4,15 @@ use Rattle.std.specs.Prelude.{false, Some, Ok}
 use Rattle.disk_model.specs.Disk.{Contents, Sets, written}
 use Rattle.disk_model.specs.Sound.{written-below, written-lengths}
 use Rattle.manifest_codec.specs.declared.types.Manifest.{Manifest}
-use Rattle.manifest_switch.specs.Slots.{file_of, other, is_open, open_body, body, chosen, current_of, next_generation, with_closed_gate, IsClosed, HasOnly}
-use Rattle.manifest_switch.specs.Steps.{MayClose, Keeps, Opens, Switches, Succeeds, IsReady, IsPlaced, IsSwitched}
+use Rattle.manifest_switch.specs.Slots.{file_of, other, is_open, open_body, body, chosen, current_of, next_generation, with_closed_gate, IsClosedGate, HasOnly}
+use Rattle.manifest_switch.specs.Steps.{MayClose, Keeps, Opens, Switches, Succeeds, IsSlotReady, IsPlaced, IsSwitched}
 use Rattle.manifest_switch.specs.declared.slot.Slot.{Slot}
 use Rattle.manifest_switch.specs.declared.slot.Slot.TheVariants.{Zero, One}
 use Rattle.manifest_switch.specs.declared.slot.Found.TheVariants.{At}
 use Rattle.manifest_switch.proofs.CodecLemmas.{Says, staged-body}
 use Rattle.manifest_switch.proofs.SlotLemmas.{closed_gate, closed-shut, opened, other_apart, other_twice, current_if_follows, succeeds_same, keeps_closed, keeps_opens}
 
-staged-closed : (file bytes : List ℕ) → IsClosed file → IsClosed (written file 1 bytes)
+staged-closed : (file bytes : List ℕ) → IsClosedGate file → IsClosedGate (written file 1 bytes)
 staged-closed file bytes closed =
     let gate : slice_index (written file 1 bytes) 0 ≡ slice_index file 0 = written-below file 1 bytes 0 closed.some (omega arith) in
     record { some = omega (arith, (written-lengths file 1 bytes).0, closed.some); shut = λ one. closed.shut (sym gate ∙ one) }
@@ -28,19 +28,19 @@ module _ (s : Slot) (m : Manifest) (bytes : List ℕ) (says : Says bytes m) (d e
   abbrev Turns : Type 0
   Turns = Sets (file_of s) (written (e2 (file_of s)) 0 (1 ∷ [])) e2 e3
 
-  pub is_shut : Shuts → IsClosed (e1 (file_of s))
-  is_shut shuts = subst (λ (l : List ℕ). IsClosed l) (sym shuts.here) (closed_gate (d (file_of s)))
+  pub is_shut : Shuts → IsClosedGate (e1 (file_of s))
+  is_shut shuts = subst (λ (l : List ℕ). IsClosedGate l) (sym shuts.here) (closed_gate (d (file_of s)))
 
   pub body_there : Shuts → Writes → body (e2 (file_of s)) ≡ Ok m
   body_there shuts writes = ap body writes.here ∙ staged-body (e1 (file_of s)) bytes m (is_shut shuts).some says
 
-  still_shut : Shuts → Writes → IsClosed (e2 (file_of s))
-  still_shut shuts writes = subst (λ (l : List ℕ). IsClosed l) (sym writes.here) (staged-closed (e1 (file_of s)) bytes (is_shut shuts))
+  still_shut : Shuts → Writes → IsClosedGate (e2 (file_of s))
+  still_shut shuts writes = subst (λ (l : List ℕ). IsClosedGate l) (sym writes.here) (staged-closed (e1 (file_of s)) bytes (is_shut shuts))
 
   same_other : Shuts → Writes → e2 (file_of (other s)) ≡ d (file_of (other s))
   same_other shuts writes = writes.others (file_of (other s)) (other_apart s) ∙ shuts.others (file_of (other s)) (other_apart s)
 
-  pub is_ready : (x : Contents) → ((f : ℕ) → x f ≡ e2 f) → Succeeds s m d → Shuts → Writes → IsReady s x
+  pub is_ready : (x : Contents) → ((f : ℕ) → x f ≡ e2 f) → Succeeds s m d → Shuts → Writes → IsSlotReady s x
   is_ready x just follows shuts writes =
       record {
         closed = ap is_open (just (file_of s)) ∙ closed-shut (e2 (file_of s)) (still_shut shuts writes);

@@ -7,7 +7,7 @@ use Rattle.manifest_codec.specs.declared.types.ManifestFault.{ManifestFault}
 use Rattle.manifest_switch.specs.declared.slot.Slot.{Slot}
 use Rattle.manifest_switch.specs.declared.slot.Found.{Found}
 use Rattle.manifest_switch.specs.declared.slot.Found.TheVariants.{Blank, At}
-use Rattle.manifest_codec.specs.Spelling.{Fits}
+use Rattle.manifest_codec.specs.Spelling.{FitsManifest}
 use Rattle.manifest_switch.specs.declared.slot.OpenFault.{OpenFault}
 use Rattle.manifest_switch.specs.declared.slot.OpenFault.TheVariants.{DiskFault, BadStore, NoMemory}
 use Rattle.manifest_switch.specs.Slots.{is_open, bad_body}
@@ -15,7 +15,7 @@ use Rattle.manifest_switch.specs.Slots.{is_open, bad_body}
 -- a manifest that is found keeps the rules of its format
 abbrev pub HoldsFit : Found → Type 0
 HoldsFit Blank = Unit {0}
-HoldsFit (At s m) = Fits m
+HoldsFit (At s m) = FitsManifest m
 
 -- the reason of each fault
 abbrev pub why_not_open : OpenFault → Why
@@ -24,11 +24,11 @@ why_not_open (BadStore file place kind) = broken file place kind
 why_not_open NoMemory = no_memory
 
 -- what was asked for, unless disk or memory failed. No bytes are blamed.
-abbrev pub Gives : {T : Type 0} → Result T OpenFault → (T → Type 0) → Type 0
-Gives (Ok x) P = P x
-Gives (Err (BadStore file place kind)) P = ⊥
-Gives (Err DiskFault) P = Unit {0}
-Gives (Err NoMemory) P = Unit {0}
+abbrev pub GivesUnblamed : {T : Type 0} → Result T OpenFault → (T → Type 0) → Type 0
+GivesUnblamed (Ok x) P = P x
+GivesUnblamed (Err (BadStore file place kind)) P = ⊥
+GivesUnblamed (Err DiskFault) P = Unit {0}
+GivesUnblamed (Err NoMemory) P = Unit {0}
 
 -- the bytes end within a field
 abbrev pub IsCutShort : Result Manifest ManifestFault → Type 0

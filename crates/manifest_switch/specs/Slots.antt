@@ -83,7 +83,7 @@ unfoldable pub is_loose : List ℕ → Bool
 is_loose file = nat_eq (length file) 0 || (slice_index file 0 == 1)
 
 -- a closed gate: a byte at place 0 that isn't 1
-pub record IsClosed (file : List ℕ) : Type 0 where
+pub record IsClosedGate (file : List ℕ) : Type 0 where
   pub some : 0 < length file
   pub shut : slice_index file 0 ≢ 1
 

@@ -27,7 +27,7 @@ Succeeds s m c = (is_open (c (file_of (other s))) ≡ false)
     × (m.generation ≡ next_generation o.generation))
 
 -- the slot isn't open, and has the body of a manifest that may become the current one
-pub record IsReady (s : Slot) (c : Contents) : Type 0 where
+pub record IsSlotReady (s : Slot) (c : Contents) : Type 0 where
   pub closed : is_open (c (file_of s)) ≡ false
   pub next : Manifest
   pub body_is : body (c (file_of s)) ≡ Ok next

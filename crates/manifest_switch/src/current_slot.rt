@@ -7,10 +7,10 @@ ghost use Rattle.disk_model.specs.Disk.{Contents};
 ghost use Rattle.disk_model.specs.View.{OnlyLooks, on_disk};
 ghost use Rattle.faults.specs.Reasons.{HasReason, blames_any};
 ghost use Rattle.manifest_codec.specs.FieldsRead.{reading};
-ghost use Rattle.manifest_codec.specs.Spelling.{Fits};
+ghost use Rattle.manifest_codec.specs.Spelling.{FitsManifest};
 ghost use Rattle.manifest_switch.specs.declared.slot.Slot.{Slot};
 ghost use Rattle.manifest_switch.specs.Slots.{file_of, is_open, value_of, open_body, body, chosen, later_of, next_generation, current_of};
-ghost use Rattle.manifest_switch.specs.Answers.{HoldsFit, why_not_open, Gives, IsCutShort, AnswersOpen, AnswersSlot, AnswersCurrent};
+ghost use Rattle.manifest_switch.specs.Answers.{HoldsFit, why_not_open, GivesUnblamed, IsCutShort, AnswersOpen, AnswersSlot, AnswersCurrent};
 
 use crate::gates::OPEN;
 use crate::slot::{Found, OpenFault, Slot};
@@ -29,7 +29,7 @@ fn front_of<D: Disk>(
     size: u64,
 ) -> Result<Vec<u8>, OpenFault>
     requires { 1 + size < 2 ^ 64 }
-    ensures front { IsTrue D.tells → Gives result (λ v. v.items ≡ take size (drop 1 (D.seen disk.old (file_of slot)))) }
+    ensures front { IsTrue D.tells → GivesUnblamed result (λ v. v.items ≡ take size (drop 1 (D.seen disk.old (file_of slot)))) }
     ensures looks { OnlyLooks D.Disk disk.old disk.new }
     ensures cause { HasReason why_not_open (on_disk D.Disk disk.old disk.new blames_any) result }
 {
@@ -47,8 +47,8 @@ fn front_says<D: Disk>(
     size: u64,
 ) -> Result<Result<Manifest, ManifestFault>, OpenFault>
     requires { 1 + size < 2 ^ 64 }
-    ensures fits { IfOk result (λ r. IfOk r Fits) }
-    ensures says { IsTrue D.tells → Gives result (λ r. r ≡ value_of (reading (take size (drop 1 (D.seen disk.old (file_of slot)))))) }
+    ensures fits { IfOk result (λ r. IfOk r FitsManifest) }
+    ensures says { IsTrue D.tells → GivesUnblamed result (λ r. r ≡ value_of (reading (take size (drop 1 (D.seen disk.old (file_of slot)))))) }
     ensures looks { OnlyLooks D.Disk disk.old disk.new }
     ensures cause { HasReason why_not_open (on_disk D.Disk disk.old disk.new blames_any) result }
 {
@@ -84,8 +84,8 @@ fn body_of<D: Disk>(
 ) -> Result<Result<Manifest, ManifestFault>, OpenFault>
     requires size { 1 + all < 2 ^ 64 }
     requires all { IsTrue D.tells → length (D.seen disk.old (file_of slot)) ≡ 1 + all }
-    ensures fits { IfOk result (λ r. IfOk r Fits) }
-    ensures says { IsTrue D.tells → Gives result (λ r. r ≡ body (D.seen disk.old (file_of slot))) }
+    ensures fits { IfOk result (λ r. IfOk r FitsManifest) }
+    ensures says { IsTrue D.tells → GivesUnblamed result (λ r. r ≡ body (D.seen disk.old (file_of slot))) }
     ensures looks { OnlyLooks D.Disk disk.old disk.new }
     ensures cause { HasReason why_not_open (on_disk D.Disk disk.old disk.new blames_any) result }
 {
@@ -133,7 +133,7 @@ pub(crate) fn open_len<D: Disk>(disk: &mut D, slot: Slot) -> Result<Option<u64>,
 // The manifest of a slot, where it is open.
 #[tactic(auto, unfolding(crate::specs::Slots::open_body))]
 fn slot_of<D: Disk>(alloc: Global, disk: &mut D, slot: Slot) -> Result<Option<Manifest>, OpenFault>
-    ensures fits { IfOk result (λ m. IfSome m Fits) }
+    ensures fits { IfOk result (λ m. IfSome m FitsManifest) }
     ensures slot { IsTrue D.tells → AnswersSlot slot (open_body (D.seen disk.old (file_of slot))) result }
     ensures looks { OnlyLooks D.Disk disk.old disk.new }
     ensures cause { HasReason why_not_open (on_disk D.Disk disk.old disk.new blames_any) result }
@@ -161,8 +161,8 @@ fn next_generation(generation: u8) -> u8
 // The later of two open slots.
 #[tactic(auto, unfolding(crate::specs::Slots::later_of))]
 fn later_of(first: Manifest, second: Manifest) -> Result<Found, OpenFault>
-    requires first { Fits first }
-    requires second { Fits second }
+    requires first { FitsManifest first }
+    requires second { FitsManifest second }
     ensures later { result ≡ later_of first second }
     ensures fits { IfOk result HoldsFit }
 {
@@ -182,8 +182,8 @@ fn later_of(first: Manifest, second: Manifest) -> Result<Found, OpenFault>
 // Which slot is current, by what the two say.
 #[tactic(auto, unfolding(crate::specs::Slots::chosen))]
 fn chosen(first: Option<Manifest>, second: Option<Manifest>) -> Result<Found, OpenFault>
-    requires first { IfSome first Fits }
-    requires second { IfSome second Fits }
+    requires first { IfSome first FitsManifest }
+    requires second { IfSome second FitsManifest }
     ensures chosen { result ≡ chosen (option_map Ok first) (option_map Ok second) }
     ensures fits { IfOk result HoldsFit }
 {

@@ -4,8 +4,8 @@ ghost use Rattle.std.specs.Prelude.{slice_index, Option, Some, None, OnOk, IfOk}
 ghost use Rattle.faults.specs.Counts.{HasCause};
 ghost use Rattle.disk_model.specs.Disk.{Contents, Sets, written};
 ghost use Rattle.disk_model.specs.View.{IsDurable, LeavesBy, OnlyLooks};
-ghost use Rattle.manifest_switch.specs.Slots.{file_of, is_loose, with_closed_gate, IsClosed};
-ghost use Rattle.manifest_switch.specs.Steps.{Keeps, MayClose, IsReady, Opens};
+ghost use Rattle.manifest_switch.specs.Slots.{file_of, is_loose, with_closed_gate, IsClosedGate};
+ghost use Rattle.manifest_switch.specs.Steps.{Keeps, MayClose, IsSlotReady, Opens};
 
 use crate::slot::Slot;
 use disk_model::{Disk, Failed};
@@ -68,7 +68,7 @@ pub fn close_gate<D: Disk>(disk: &mut D, slot: Slot) -> Result<(), Failed>
 /// tells its images. Whatever it answers, a crash at any moment leaves what was current, and all
 /// other files as they were. `Failed` comes only where the disk's count rose.
 pub fn write_body<D: Disk>(disk: &mut D, slot: Slot, body: &[u8]) -> Result<(), Failed>
-    requires { (c : Contents) → D.may_leave disk.old c → IsClosed (c (file_of slot)) }
+    requires { (c : Contents) → D.may_leave disk.old c → IsClosedGate (c (file_of slot)) }
     ensures any_moment { LeavesBy D.Disk disk.old disk.new (Keeps slot) }
     ensures reads { IsTrue D.tells → OnOk result
         (Sets (file_of slot) (written (D.seen disk.old (file_of slot)) 1 body.now) (D.seen disk.old)
@@ -88,7 +88,7 @@ pub fn write_body<D: Disk>(disk: &mut D, slot: Slot, body: &[u8]) -> Result<(), 
 /// makes this manifest current, and leaves all other files as they were. `Failed` comes only where
 /// the disk's count rose.
 pub fn open_gate<D: Disk>(disk: &mut D, slot: Slot) -> Result<(), Failed>
-    requires { (c : Contents) → D.may_leave disk.old c → IsReady slot c }
+    requires { (c : Contents) → D.may_leave disk.old c → IsSlotReady slot c }
     ensures any_moment { LeavesBy D.Disk disk.old disk.new (Opens slot) }
     ensures reads { IsTrue D.tells → OnOk result
         (Sets (file_of slot) (written (D.seen disk.old (file_of slot)) 0 (1 ∷ [])) (D.seen disk.old)

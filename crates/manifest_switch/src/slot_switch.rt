@@ -5,7 +5,7 @@ ghost use Rattle.disk_model.specs.Disk.{Contents};
 ghost use Rattle.disk_model.specs.Crash.{LeavesOnly};
 ghost use Rattle.disk_model.specs.View.{IsDurable, on_disk};
 ghost use Rattle.faults.specs.Reasons.{HasReason, blames_none};
-ghost use Rattle.manifest_codec.specs.Spelling.{Fits};
+ghost use Rattle.manifest_codec.specs.Spelling.{FitsManifest};
 ghost use Rattle.manifest_codec.specs.declared.types.Manifest.{Manifest};
 ghost use Rattle.manifest_switch.specs.declared.slot.Slot.{Slot};
 ghost use Rattle.manifest_switch.specs.declared.slot.SwitchFault.TheVariants.{NoMemory};
@@ -25,7 +25,7 @@ fn replace<D: Disk>(
     slot: Slot,
     next: &Manifest,
 ) -> Result<(), SwitchFault>
-    requires fits { Fits next.now }
+    requires fits { FitsManifest next.now }
     requires closed { (c : Contents) → D.may_leave disk.old c → is_open (c (file_of slot)) ≡ false }
     requires follows { (c : Contents) → D.may_leave disk.old c → Succeeds slot next.now c }
     ensures any_moment { LeavesOnly D.moment D.left_since disk.old disk.new (IsAmid (D.may_leave disk.old) (D.seen disk.old) next.now) }
@@ -69,7 +69,7 @@ pub fn switch<D: Disk>(
     from: Option<Slot>,
     next: &Manifest,
 ) -> Result<Slot, SwitchFault>
-    requires fits { Fits next.now }
+    requires fits { FitsManifest next.now }
     requires first { from ≡ None → next.now.generation ≡ 0 }
     requires blank { from ≡ None → (c : Contents) → D.may_leave disk.old c → IsBlank c }
     requires only { (s : Slot) → from ≡ Some s → (c : Contents) → D.may_leave disk.old c → (o : Manifest)

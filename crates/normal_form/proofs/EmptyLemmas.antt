@@ -11,7 +11,7 @@ use Rattle.graph_words.specs.Reach.{rule, Yields, done, keep, rewrite}
 use Rattle.graph_words.proofs.Derivations.{Yields-append}
 use Rattle.normal_law.specs.NormalForm.{fresh_label}
 use Rattle.normal_form.specs.Rows.{AddsLabel, AddsLabels}
-use Rattle.normal_form.specs.Empty.{DerivesEmpty, HasLeft, IsNewEmpty, IsFreshOf, HasFresh}
+use Rattle.normal_form.specs.Empty.{DerivesEmpty, HasLeft, IsNewEmpty, IsFreshAmong, HasFresh}
 
 pub All-left : {X : Type 0} (P : X → Type 0) (xs ys : List X) → All P (xs ++ ys) → All P xs
 All-left P [] ys h = All-nil P
@@ -58,17 +58,17 @@ had P Q false e q = λ p. q
 pub HasFresh-start : (found row : List LabelId) (words : List (List LabelId)) → AddsLabels [] row found → HasFresh found words 0 row
 HasFresh-start found row words a x = (λ m. go (a.only x m), back)
   where
-    go : Contains [] x ⊎ Contains found x → Contains found x ⊎ IsFreshOf found words 0 x
+    go : Contains [] x ⊎ Contains found x → Contains found x ⊎ IsFreshAmong found words 0 x
     go (inl (k, l, e)) = absurd (omega arith)
     go (inr m) = inl m
 
-    back : Contains found x ⊎ IsFreshOf found words 0 x → Contains row x
+    back : Contains found x ⊎ IsFreshAmong found words 0 x → Contains row x
     back (inl m) = a.has x m
     back (inr (k, l, e, h)) = absurd (omega arith)
 
 -- one more fresh label, which may be left out
 module _ (found : List LabelId) (words : List (List LabelId)) (n : ℕ) where
-  more : (x : LabelId) → Contains found x ⊎ IsFreshOf found words n x → Contains found x ⊎ IsFreshOf found words (n + 1) x
+  more : (x : LabelId) → Contains found x ⊎ IsFreshAmong found words n x → Contains found x ⊎ IsFreshAmong found words (n + 1) x
   more x (inl m) = inl m
   more x (inr (k, l, e, h)) = inr (k, (let m : k < n + 1 = omega arith in m), e, h)
 
@@ -79,14 +79,14 @@ module _ (found : List LabelId) (words : List (List LabelId)) (n : ℕ) where
       less k l e all (inl m) = (h x).1 (inr (k, m, e, all))
       less k l e all (inr m) = absurd (unlike (subst (λ (i : ℕ). All (Contains found) (get_or words i [])) (let s : k ≡ n = omega arith in s) all))
 
-      back : Contains found x ⊎ IsFreshOf found words (n + 1) x → Contains row x
+      back : Contains found x ⊎ IsFreshAmong found words (n + 1) x → Contains row x
       back (inl m) = (h x).1 (inl m)
       back (inr (k, l, e, all)) = less k l e all (cases_lt k n)
 
   pub HasFresh-take : (row after : List LabelId) → HasFresh found words n row → All (Contains found) (get_or words n []) → AddsLabel row after (fresh_label n) → HasFresh found words (n + 1) after
   HasFresh-take row after h here a x = (λ m. forth (a.only x m), back)
     where
-      forth : Contains row x ⊎ (x ≡ fresh_label n) → Contains found x ⊎ IsFreshOf found words (n + 1) x
+      forth : Contains row x ⊎ (x ≡ fresh_label n) → Contains found x ⊎ IsFreshAmong found words (n + 1) x
       forth (inl m) = more x ((h x).0 m)
       forth (inr e) = inr (n, (let m : n < n + 1 = omega arith in m), e, here)
 
@@ -96,6 +96,6 @@ module _ (found : List LabelId) (words : List (List LabelId)) (n : ℕ) where
           let s : k ≡ n = omega arith in
           subst (λ (y : LabelId). Contains after y) (sym (e ∙ ap fresh_label s)) a.has
 
-      back : Contains found x ⊎ IsFreshOf found words (n + 1) x → Contains after x
+      back : Contains found x ⊎ IsFreshAmong found words (n + 1) x → Contains after x
       back (inl m) = a.keeps x ((h x).1 (inl m))
       back (inr (k, l, e, all)) = less k l e all (cases_lt k n)

@@ -8,7 +8,7 @@ use Rattle.std.proofs.lemmas.List.{get_or_default, get_or-map, length-map, map-a
 use Rattle.std.proofs.lemmas.List.Elements.{Contains-get_or, Contains-append_left, Contains-append_right, Contains-append_cases}
 use Rattle.graph_words.specs.declared.types.LabelId.{LabelId}
 use Rattle.normal_form.specs.declared.joins.Join.{Join}
-use Rattle.normal_form.specs.Rows.{IsAscending, PartsAt, AddsLabels}
+use Rattle.normal_form.specs.Rows.{AreLabelsAscending, PartsLabelsAt, AddsLabels}
 use Rattle.normal_form.specs.Joins.{second_of, HasJoin, AddsJoins}
 use Rattle.normal_form.proofs.RowLemmas.{IsParting, IsParting-low, IsParting-high, at_place, is_at_place, insert_ascends}
 
@@ -81,7 +81,7 @@ module _ {X : Type 0} (xs : List X) (i : ℕ) (y : X) where
 read_second : (joins : List Join) (k : ℕ) (j : Join) (d : LabelId) → k < length joins → j ≡ get_or joins k j → get_or (map second_of joins) k d ≡ j.second
 read_second joins k j d l is = get_or-map second_of joins k j d l ∙ ap second_of (sym is)
 
-module _ (joins : List Join) (second : LabelId) (up : IsAscending (map second_of joins)) where
+module _ (joins : List Join) (second : LabelId) (up : AreLabelsAscending (map second_of joins)) where
   pub second_low : (low high middle : ℕ) (j : Join) → IsParting (map second_of joins) second low high → middle < high → (get_or joins middle j).second.0 < second.0 → IsParting (map second_of joins) second (middle + 1) high
   second_low low high middle j p l small =
       let w = p.within in
@@ -94,7 +94,7 @@ module _ (joins : List Join) (second : LabelId) (up : IsAscending (map second_of
       let there : middle < length joins = omega (arith, length-map joins second_of) in
       IsParting-high (map second_of joins) second low high middle j.second up p le l (subst (λ (x : LabelId). second.0 ≤ x.0) (sym (get_or-map second_of joins middle j j.second there)) large)
 
-  module _ (place : ℕ) (p : PartsAt (map second_of joins) second place) where
+  module _ (place : ℕ) (p : PartsLabelsAt (map second_of joins) second place) where
     pub second_there : (j : Join) (b : Bool) → place < length joins → b ≡ eqb (get_or joins place j).second.0 second.0 → IsTrue b ↔ Contains (map second_of joins) second
     second_there j b l e =
         is_at_place (map second_of joins) second place j.second b up p (omega (arith, length-map joins second_of))
@@ -130,8 +130,8 @@ module _ (joins : List Join) (second : LabelId) (up : IsAscending (map second_of
             let same : x ≡ j = sym q ∙ ap (λ (i : ℕ). get_or joins i x) at ∙ get_or_default joins place x j (second_within m) ∙ sym is in
             subst (λ (z : Join). Contains z.labels a) same h
 
-    pub second_put_in : (j : Join) → j.second ≡ second → (Contains (map second_of joins) second → ⊥) → IsAscending (map second_of (insert joins place j))
-    second_put_in j e none = subst IsAscending (sym (seconds ∙ ap (λ (x : LabelId). insert (map second_of joins) place x) e)) (insert_ascends (map second_of joins) second place p up none)
+    pub second_put_in : (j : Join) → j.second ≡ second → (Contains (map second_of joins) second → ⊥) → AreLabelsAscending (map second_of (insert joins place j))
+    second_put_in j e none = subst AreLabelsAscending (sym (seconds ∙ ap (λ (x : LabelId). insert (map second_of joins) place x) e)) (insert_ascends (map second_of joins) second place p up none)
       where
         seconds : map second_of (insert joins place j) ≡ insert (map second_of joins) place j.second
         seconds =
@@ -145,8 +145,8 @@ none_there joins second a none = (λ (k, l, e). absurd (omega arith), back)
     back : HasJoin joins second a → Contains [] a
     back (x, (k, l, q), e, h) = absurd (none (k, omega (arith, length-map joins second_of), read_second joins k x second l (sym q) ∙ e))
 
-pub second_stays : (joins : List Join) (place : ℕ) (j x : Join) → x.second ≡ j.second → j ≡ get_or joins place j → IsAscending (map second_of joins) → IsAscending (map second_of (set joins place x))
-second_stays joins place j x e is up = subst IsAscending (sym (map-set_same second_of joins place x j (e ∙ ap second_of is))) up
+pub second_stays : (joins : List Join) (place : ℕ) (j x : Join) → x.second ≡ j.second → j ≡ get_or joins place j → AreLabelsAscending (map second_of joins) → AreLabelsAscending (map second_of (set joins place x))
+second_stays joins place j x e is up = subst AreLabelsAscending (sym (map-set_same second_of joins place x j (e ∙ ap second_of is))) up
 
 -- more labels for a second label that is there
 pub AddsJoins-set : (joins : List Join) (second : LabelId) (place : ℕ) (j x : Join) (labels : List LabelId) → place < length joins → j ≡ get_or joins place j → j.second ≡ second → x.second ≡ j.second → AddsLabels j.labels x.labels labels → AddsJoins joins (set joins place x) second labels

@@ -17,10 +17,10 @@ use Rattle.normal_law.proofs.PairLemmas.{pairs_left}
 use Rattle.normal_law.proofs.FreshLemmas.{few_fresh}
 use Rattle.normal_form.specs.declared.joins.Join.{Join}
 use Rattle.normal_form.specs.Grammar.{IsGrammar}
-use Rattle.normal_form.specs.Joins.{HasJoinAt, IsJoined, IsTable}
+use Rattle.normal_form.specs.Joins.{HasJoinAt, IsJoined, IsJoinTable}
 use Rattle.normal_form.specs.Rows.{AddsLabel}
 use Rattle.normal_form.specs.Above.{IsUpRow}
-use Rattle.normal_form.specs.Empty.{DerivesEmpty, IsFreshOf, HasFresh}
+use Rattle.normal_form.specs.Empty.{DerivesEmpty, IsFreshAmong, HasFresh}
 use Rattle.normal_form.specs.Parts.{AreNamed, AreAbove}
 use Rattle.normal_form.proofs.EmptyLemmas.{list_derives, All-left, All-right}
 
@@ -116,14 +116,14 @@ IsEmpty-found rules found row names sound whole h a = (λ m. forth ((h a).0 m), 
         let y = list_derives rules (get_or (fresh_words rules) k []) (λ i d m. All-contains (DerivesEmpty rules) found (get_or (get_or (fresh_words rules) k []) i d) sound (all i d m)) in
         (inr (omega arith, omega arith), (y.0, subst (λ (f : List LabelId). Yields rules y.0 f []) (sym (stands_for-fresh (fresh_words rules) k)) y.1))
 
-    forth : Contains found a ⊎ IsFreshOf found (fresh_words rules) (length (fresh_words rules)) a → IsEmpty (normal_form rules) a
+    forth : Contains found a ⊎ IsFreshAmong found (fresh_words rules) (length (fresh_words rules)) a → IsEmpty (normal_form rules) a
     forth (inl m) =
         let d = All-contains (DerivesEmpty rules) found a sound m in
         let n = derives_named rules a names d in
         (inl n, (d.0, subst (λ (f : List LabelId). Yields rules d.0 f []) (sym (stands_for-named (fresh_words rules) a n)) d.1))
     forth (inr (k, l, e, all)) = subst (λ (x : LabelId). IsEmpty (normal_form rules) x) (sym e) (fresh_empty k l all)
 
-    back : IsLabelOf (normal_form rules) a → (k : ℕ) × Yields rules k (stands_for (fresh_words rules) a) [] → Contains found a ⊎ IsFreshOf found (fresh_words rules) (length (fresh_words rules)) a
+    back : IsLabelOf (normal_form rules) a → (k : ℕ) × Yields rules k (stands_for (fresh_words rules) a) [] → Contains found a ⊎ IsFreshAmong found (fresh_words rules) (length (fresh_words rules)) a
     back (inl n) (k, y) = inl (whole a (k, subst (λ (f : List LabelId). Yields rules k f []) (stands_for-named (fresh_words rules) a n) y))
     back (inr n) (k, y) =
         let i = a.0 - 1000 in
@@ -152,7 +152,7 @@ pub stands-fresh : (rules : List Rule) (l : LabelId) → 1000 ≤ l.0 → stands
 stands-fresh rules l h = ap (λ (x : LabelId). stands_for (fresh_words rules) x) (sym (fresh_again l h)) ∙ stands_for-fresh (fresh_words rules) (l.0 - 1000)
 
 -- the labels above the left sides of the rules with two labels on the right are those of their joins
-pub joins_from_table : (rules : List Rule) (rows : List (List LabelId)) (joins : List (List Join)) → HasNamedLabels rules → length rows ≡ 1000 + length (fresh_words rules) → AreAbove rules rows → IsTable (all_pairs 0 rules) rows joins → (b c a : LabelId) → HasJoinAt joins b c a ↔ Joins (normal_form rules) b c a
+pub joins_from_table : (rules : List Rule) (rows : List (List LabelId)) (joins : List (List Join)) → HasNamedLabels rules → length rows ≡ 1000 + length (fresh_words rules) → AreAbove rules rows → IsJoinTable (all_pairs 0 rules) rows joins → (b c a : LabelId) → HasJoinAt joins b c a ↔ Joins (normal_form rules) b c a
 joins_from_table rules rows joins names count up table b c a = (λ h. forth ((table b c a).0 h), λ j. (table b c a).1 (back j))
   where
     left_known : (p : PairRule) → Contains (all_pairs 0 rules) p → p.left.0 < length rows

@@ -6,7 +6,7 @@ use Rattle.std.proofs.lemmas.List.{get_or_default, take_more, take_all, take-app
 use Rattle.std.proofs.lemmas.List.Edits.{length-insert, get_or-insert_below, get_or-insert_at, get_or-insert_above}
 use Rattle.std.proofs.lemmas.List.Elements.{All-contains, Contains-get_or, Contains-append_left, Contains-append_right, Contains-append_cases}
 use Rattle.graph_words.specs.declared.types.LabelId.{LabelId}
-use Rattle.normal_form.specs.Rows.{IsAscending, PartsAt, AddsLabel, AddsLabels}
+use Rattle.normal_form.specs.Rows.{AreLabelsAscending, PartsLabelsAt, AddsLabel, AddsLabels}
 
 -- The labels before low are below the label, and those from high on are not.
 pub record IsParting (labels : List LabelId) (label : LabelId) (low high : ℕ) : Type 0 where
@@ -24,7 +24,7 @@ only_one x y (zero, h, e) = sym e
 only_one x y (suc k, h, e) = absurd (omega arith)
 
 -- of two labels, the later one is not below the earlier
-at_least : (labels : List LabelId) → IsAscending labels → (i j : ℕ) (d : LabelId) → i ≤ j → j < length labels → (get_or labels i d).0 ≤ (get_or labels j d).0
+at_least : (labels : List LabelId) → AreLabelsAscending labels → (i j : ℕ) (d : LabelId) → i ≤ j → j < length labels → (get_or labels i d).0 ≤ (get_or labels j d).0
 at_least labels up i j d le lt = go (cases_lt i j)
   where
     go : (i < j) ⊎ (j ≤ i) → (get_or labels i d).0 ≤ (get_or labels j d).0
@@ -34,7 +34,7 @@ at_least labels up i j d le lt = go (cases_lt i j)
         let e : (get_or labels i d).0 ≡ (get_or labels j d).0 = ap (λ (k : ℕ). (get_or labels k d).0) same in
         omega arith
 
-pub IsParting-low : (labels : List LabelId) (label : LabelId) (low high middle : ℕ) (x : LabelId) → IsAscending labels → IsParting labels label low high → middle < high → (get_or labels middle x).0 < label.0 → IsParting labels label (middle + 1) high
+pub IsParting-low : (labels : List LabelId) (label : LabelId) (low high middle : ℕ) (x : LabelId) → AreLabelsAscending labels → IsParting labels label low high → middle < high → (get_or labels middle x).0 < label.0 → IsParting labels label (middle + 1) high
 IsParting-low labels label low high middle x up p lt small =
     record {
       order = omega arith;
@@ -48,7 +48,7 @@ IsParting-low labels label low high middle x up p lt small =
       others = p.others;
     }
 
-pub IsParting-high : (labels : List LabelId) (label : LabelId) (low high middle : ℕ) (x : LabelId) → IsAscending labels → IsParting labels label low high → low ≤ middle → middle < high → label.0 ≤ (get_or labels middle x).0 → IsParting labels label low middle
+pub IsParting-high : (labels : List LabelId) (label : LabelId) (low high middle : ℕ) (x : LabelId) → AreLabelsAscending labels → IsParting labels label low high → low ≤ middle → middle < high → label.0 ≤ (get_or labels middle x).0 → IsParting labels label low middle
 IsParting-high labels label low high middle x up p le lt large =
     record {
       order = le;
@@ -62,7 +62,7 @@ IsParting-high labels label low high middle x up p le lt large =
           omega arith;
     }
 
-pub IsParting-end : (labels : List LabelId) (label : LabelId) (low high : ℕ) → IsParting labels label low high → high ≤ low → PartsAt labels label low
+pub IsParting-end : (labels : List LabelId) (label : LabelId) (low high : ℕ) → IsParting labels label low high → high ≤ low → PartsLabelsAt labels label low
 IsParting-end labels label low high p le =
     let o = p.order in
     let w = p.within in
@@ -74,7 +74,7 @@ pub same_label : (a b : LabelId) → a.0 ≡ b.0 → a ≡ b
 same_label a b e = ap (λ k. let x : LabelId = record { 0 = k } in x) e
 
 -- a label that is there stands at its place
-pub at_place : (labels : List LabelId) (label : LabelId) (place : ℕ) (d : LabelId) → IsAscending labels → PartsAt labels label place → Contains labels label → (place < length labels) × (get_or labels place d ≡ label)
+pub at_place : (labels : List LabelId) (label : LabelId) (place : ℕ) (d : LabelId) → AreLabelsAscending labels → PartsLabelsAt labels label place → Contains labels label → (place < length labels) × (get_or labels place d ≡ label)
 at_place labels label place d up p (k, l, e) = go (cases_lt k place)
   where
     same : (get_or labels k d).0 ≡ label.0
@@ -90,16 +90,16 @@ at_place labels label place d up p (k, l, e) = go (cases_lt k place)
         (there, same_label (get_or labels place d) label number)
 
 -- whether what stands at the place is the label tells whether the label is there
-pub is_at_place : (labels : List LabelId) (label : LabelId) (place : ℕ) (d : LabelId) (b : Bool) → IsAscending labels → PartsAt labels label place → place < length labels → b ≡ eqb (get_or labels place d).0 label.0 → IsTrue b ↔ Contains labels label
+pub is_at_place : (labels : List LabelId) (label : LabelId) (place : ℕ) (d : LabelId) (b : Bool) → AreLabelsAscending labels → PartsLabelsAt labels label place → place < length labels → b ≡ eqb (get_or labels place d).0 label.0 → IsTrue b ↔ Contains labels label
 is_at_place labels label place d b up p l e =
     (λ t. subst (λ (x : LabelId). Contains labels x) (same_label (get_or labels place d) label (eqb-true (get_or labels place d).0 label.0 (sym e ∙ t))) (Contains-get_or labels place d l), λ m. e ∙ eq-eqb (get_or labels place d).0 label.0 (ap (λ (x : LabelId). x.0) (at_place labels label place d up p m).1))
 
-pub not_past : (labels : List LabelId) (label : LabelId) (place : ℕ) → IsAscending labels → PartsAt labels label place → length labels ≤ place → Contains labels label → ⊥
+pub not_past : (labels : List LabelId) (label : LabelId) (place : ℕ) → AreLabelsAscending labels → PartsLabelsAt labels label place → length labels ≤ place → Contains labels label → ⊥
 not_past labels label place up p l m = let h = (at_place labels label place label up p m).0 in omega arith
 
 -- ---- a label is put in at its place
 
-module _ (labels : List LabelId) (label : LabelId) (place : ℕ) (p : PartsAt labels label place) where
+module _ (labels : List LabelId) (label : LabelId) (place : ℕ) (p : PartsLabelsAt labels label place) where
   number_before : (k : ℕ) (d : LabelId) → k < place → (get_or (insert labels place label) k d).0 ≡ (get_or labels k d).0
   number_before k d l = ap (λ (x : LabelId). x.0) (get_or-insert_below labels place label d k l p.within)
 
@@ -131,7 +131,7 @@ module _ (labels : List LabelId) (label : LabelId) (place : ℕ) (p : PartsAt la
       go (inr a) (inl b) = inr (inr b)
       go (inr a) (inr b) = inr (inl (omega arith))
 
-  pub insert_ascends : IsAscending labels → (Contains labels label → ⊥) → IsAscending (insert labels place label)
+  pub insert_ascends : AreLabelsAscending labels → (Contains labels label → ⊥) → AreLabelsAscending (insert labels place label)
   insert_ascends up none i j d lt in_range = go (three i place) (three j place)
     where
       fits : j < length labels + 1

@@ -7,7 +7,7 @@ use Rattle.std.proofs.lemmas.List.Elements.{Contains-append_left, Contains-appen
 use Rattle.graph_words.specs.declared.types.LabelId.{LabelId}
 use Rattle.graph_words.specs.declared.types.PairRule.{PairRule}
 use Rattle.normal_form.specs.declared.joins.Join.{Join}
-use Rattle.normal_form.specs.Joins.{HasJoin, AddsJoins, HasJoinAt, AddsAt, IsJoined, IsTable}
+use Rattle.normal_form.specs.Joins.{HasJoin, AddsJoins, HasJoinAt, AddsAt, IsJoined, IsJoinTable}
 use Rattle.normal_form.proofs.RowLemmas.{same_label}
 use Rattle.normal_form.proofs.JoinLemmas.{single}
 
@@ -61,7 +61,7 @@ none_past table b c a past = (λ (k, l, e). absurd (omega arith), back)
 -- The table has the joins of the first n pairs.
 pub record IsFilling (pairs : List PairRule) (above : List (List LabelId)) (rows n : ℕ) (table : List (List Join)) : Type 0 where
   pub rows_are : length table ≡ rows
-  pub filled : IsTable (take n pairs) above table
+  pub filled : IsJoinTable (take n pairs) above table
 
 pub IsFilling-start : (pairs : List PairRule) (above : List (List LabelId)) (rows : ℕ) (table : List (List Join)) → length table ≡ rows → All (λ r. r ≡ []) table → IsFilling pairs above rows 0 table
 IsFilling-start pairs above rows table e empty = record { rows_are = e; filled = λ b c a. (λ h. absurd (none b c a (cases_lt b.0 (length table)) h), λ (p, (k, l, x), e, q, m). absurd (omega arith)) }
@@ -97,5 +97,5 @@ IsFilling-step pairs above rows n table after d l f a = record { rows_are = a.ro
             let here = subst (λ (r : PairRule). HasJoinAt after r.first r.second x) same has in
             subst (λ (y : LabelId). HasJoinAt after y c x) e (subst (λ (y : LabelId). HasJoinAt after p.first y x) q here)
 
-pub IsFilling-end : (pairs : List PairRule) (above : List (List LabelId)) (rows n : ℕ) (table : List (List Join)) → length pairs ≤ n → IsFilling pairs above rows n table → IsTable pairs above table
-IsFilling-end pairs above rows n table past f = subst (λ (t : List PairRule). IsTable t above table) (take_all n pairs past) f.filled
+pub IsFilling-end : (pairs : List PairRule) (above : List (List LabelId)) (rows n : ℕ) (table : List (List Join)) → length pairs ≤ n → IsFilling pairs above rows n table → IsJoinTable pairs above table
+IsFilling-end pairs above rows n table past f = subst (λ (t : List PairRule). IsJoinTable t above table) (take_all n pairs past) f.filled

@@ -24,9 +24,9 @@ pub record IsNewEmpty (rules : List Rule) (found : List LabelId) (a : LabelId) :
   pub due : IsDue found by
 
 -- one of the first n fresh labels, whose word has only the found labels
-abbrev pub IsFreshOf : List LabelId → List (List LabelId) → ℕ → LabelId → Type 0
-IsFreshOf found words n a = (k : ℕ) × (k < n) × (a ≡ fresh_label k) × All (Contains found) (slice_index_or words k [])
+abbrev pub IsFreshAmong : List LabelId → List (List LabelId) → ℕ → LabelId → Type 0
+IsFreshAmong found words n a = (k : ℕ) × (k < n) × (a ≡ fresh_label k) × All (Contains found) (slice_index_or words k [])
 
 -- the found labels, and the fresh ones among the first n whose words have only these
 abbrev pub HasFresh : List LabelId → List (List LabelId) → ℕ → List LabelId → Type 0
-HasFresh found words n row = (a : LabelId) → Contains row a ↔ (Contains found a ⊎ IsFreshOf found words n a)
+HasFresh found words n row = (a : LabelId) → Contains row a ↔ (Contains found a ⊎ IsFreshAmong found words n a)

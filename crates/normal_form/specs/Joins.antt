@@ -33,5 +33,5 @@ abbrev pub IsJoined : List PairRule → List (List LabelId) → LabelId → Labe
 IsJoined pairs above b c a = (p : PairRule) × Contains pairs p × (p.first ≡ b) × (p.second ≡ c) × Contains (slice_index_or above p.left.0 []) a
 
 -- the table has the labels of each join, and no others
-abbrev pub IsTable : List PairRule → List (List LabelId) → List (List Join) → Type 0
-IsTable pairs above table = (b c a : LabelId) → HasJoinAt table b c a ↔ IsJoined pairs above b c a
+abbrev pub IsJoinTable : List PairRule → List (List LabelId) → List (List Join) → Type 0
+IsJoinTable pairs above table = (b c a : LabelId) → HasJoinAt table b c a ↔ IsJoined pairs above b c a

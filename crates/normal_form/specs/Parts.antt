@@ -6,7 +6,7 @@ use Rattle.normal_law.specs.NormalForm.{fresh_words, all_pairs, normal_form}
 use Rattle.normal_form.specs.declared.joins.Join.{Join}
 use Rattle.normal_form.specs.Grammar.{IsGrammar}
 use Rattle.normal_form.specs.Above.{IsUpRow}
-use Rattle.normal_form.specs.Joins.{IsTable}
+use Rattle.normal_form.specs.Joins.{IsJoinTable}
 
 -- each label below 1,000 stands at its number
 pub record AreNamed (named : List LabelId) : Type 0 where
@@ -25,5 +25,5 @@ pub record AreParts (rules : List Rule) (named : List LabelId) (fresh above : Li
   pub fresh_are : fresh ≡ fresh_words rules
   pub above_all : length above ≡ 1000 + length fresh
   pub above_are : AreAbove rules above
-  pub joins_are : IsTable (all_pairs 0 rules) above joins
+  pub joins_are : IsJoinTable (all_pairs 0 rules) above joins
   pub empties_are : (a : LabelId) → Contains empties a ↔ IsEmpty (normal_form rules) a

@@ -2,11 +2,11 @@ use Rattle.std.specs.Prelude.{◌≡◌, ℕ, ◌+◌, ◌<◌, ◌≤◌, ◌�
 use Rattle.graph_words.specs.declared.types.LabelId.{LabelId}
 
 -- the labels ascend by number, so none stands twice
-abbrev pub IsAscending : List LabelId → Type 0
-IsAscending labels = AllPairs (λ a b. a.0 < b.0) labels
+abbrev pub AreLabelsAscending : List LabelId → Type 0
+AreLabelsAscending labels = AllPairs (λ a b. a.0 < b.0) labels
 
 -- the place parts the labels: those before it are below the label, and the others are not
-pub record PartsAt (labels : List LabelId) (label : LabelId) (place : ℕ) : Type 0 where
+pub record PartsLabelsAt (labels : List LabelId) (label : LabelId) (place : ℕ) : Type 0 where
   pub within : place ≤ length labels
   pub below : (k : ℕ) (d : LabelId) → k < place → (slice_index_or labels k d).0 < label.0
   pub others : (k : ℕ) (d : LabelId) → place ≤ k → k < length labels → label.0 ≤ (slice_index_or labels k d).0

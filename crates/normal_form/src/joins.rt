@@ -1,8 +1,8 @@
 //! The labels of the joins of two labels, by the first label and then the second.
 ghost use Rattle.std.specs.Prelude.{◌≡◌, ◌↔◌, ◌+◌, ◌<◌, ◌≤◌, [], length, All, Contains, IsTrue, IfOk, OnOk, map};
 ghost use Rattle.graph_words.specs.declared.types.LabelId.{LabelId as ALabel};
-ghost use Rattle.normal_form.specs.Rows.{IsAscending, PartsAt};
-ghost use Rattle.normal_form.specs.Joins.{second_of, HasJoin, HasJoinAt, AddsJoins, AddsAt, IsTable};
+ghost use Rattle.normal_form.specs.Rows.{AreLabelsAscending, PartsLabelsAt};
+ghost use Rattle.normal_form.specs.Joins.{second_of, HasJoin, HasJoinAt, AddsJoins, AddsAt, IsJoinTable};
 
 use crate::label_row::LabelRow;
 use graph_words::{LabelId, PairRule};
@@ -28,18 +28,18 @@ impl Model for JoinRow {
 
     ghost Value = { List Join };
 
-    ghost use Rattle.normal_form.specs.Rows.{IsAscending};
+    ghost use Rattle.normal_form.specs.Rows.{AreLabelsAscending};
     ghost use Rattle.normal_form.specs.Joins.{second_of};
 
     ghost view = { λ r. r.joins.items };
 
-    ghost invariant = { λ r. IsAscending (map second_of r.joins.items) };
+    ghost invariant = { λ r. AreLabelsAscending (map second_of r.joins.items) };
 }
 
 /// How many of the ascending second labels are below this one.
 fn place_of_second(joins: &[Join], second: LabelId) -> usize
-    requires { IsAscending (map second_of joins.now) }
-    ensures { PartsAt (map second_of joins.now) second result }
+    requires { AreLabelsAscending (map second_of joins.now) }
+    ensures { PartsLabelsAt (map second_of joins.now) second result }
 {
     let mut low = 0;
     let mut high = joins.len();
@@ -56,8 +56,8 @@ fn place_of_second(joins: &[Join], second: LabelId) -> usize
 
 /// Whether the second label, whose place this is, stands there.
 fn is_second_at(joins: &[Join], place: usize, second: LabelId) -> bool
-    requires ascending { IsAscending (map second_of joins.now) }
-    requires place { PartsAt (map second_of joins.now) second place }
+    requires ascending { AreLabelsAscending (map second_of joins.now) }
+    requires place { PartsLabelsAt (map second_of joins.now) second place }
     ensures { IsTrue result ↔ Contains (map second_of joins.now) second }
 {
     place < joins.len() && joins[place].second == second
@@ -74,7 +74,7 @@ impl JoinRow {
 
     /// The labels for this second label, ascending.
     fn labels_of(&self, second: LabelId) -> &[LabelId]
-        ensures ascending { IsAscending result.now }
+        ensures ascending { AreLabelsAscending result.now }
         ensures each { (a : ALabel) → Contains result.now a ↔ HasJoin self.now second a }
     {
         let place = place_of_second(&self.joins, second);
@@ -141,7 +141,7 @@ impl JoinTable {
 
     /// The labels of the joins of the first label and the second, ascending.
     pub(crate) fn labels_of(&self, first: LabelId, second: LabelId) -> &[LabelId]
-        ensures ascending { IsAscending result.now }
+        ensures ascending { AreLabelsAscending result.now }
         ensures each { (a : ALabel) → Contains result.now a ↔ HasJoinAt self.now first second a }
     {
         if first.0 as usize >= self.rows.len() {
@@ -190,7 +190,7 @@ pub(crate) fn table_of(
 ) -> Result<JoinTable, AllocError>
     requires first { All (λ p. p.first.0 < rows) pairs.now }
     requires left { All (λ p. p.left.0 < length above.now) pairs.now }
-    ensures { IfOk result (IsTable pairs.now above.now) }
+    ensures { IfOk result (IsJoinTable pairs.now above.now) }
 {
     let mut table = JoinTable::new(alloc, rows)?;
     for pair in pairs {

@@ -1,6 +1,6 @@
 //! Labels in ascending order.
 ghost use Rattle.std.specs.Prelude.{◌≡◌, ◌↔◌, ◌<◌, ◌^◌, [], length, Contains, IsTrue, OnOk, OnErr};
-ghost use Rattle.normal_form.specs.Rows.{IsAscending, PartsAt, AddsLabel, AddsLabels};
+ghost use Rattle.normal_form.specs.Rows.{AreLabelsAscending, PartsLabelsAt, AddsLabel, AddsLabels};
 
 use graph_words::LabelId;
 use smallvec::SmallVec;
@@ -19,13 +19,13 @@ pub(crate) struct LabelRow {
 impl Model for LabelRow {
     ghost use Rattle.std.specs.Prelude.{List};
     ghost use Rattle.graph_words.specs.declared.types.LabelId.{LabelId};
-    ghost use Rattle.normal_form.specs.Rows.{IsAscending};
+    ghost use Rattle.normal_form.specs.Rows.{AreLabelsAscending};
 
     ghost Value = { List LabelId };
 
     ghost view = { λ r. r.labels.items };
 
-    ghost invariant = { λ r. IsAscending r.labels.items };
+    ghost invariant = { λ r. AreLabelsAscending r.labels.items };
 }
 
 impl LabelRow {
@@ -39,7 +39,7 @@ impl LabelRow {
 
     pub(crate) fn as_slice(&self) -> &[LabelId]
         ensures value { result.now ≡ self.now }
-        ensures ascending { IsAscending result.now }
+        ensures ascending { AreLabelsAscending result.now }
     {
         self.labels.as_slice()
     }
@@ -77,8 +77,8 @@ impl LabelRow {
 
 /// How many of the ascending labels are below this one.
 pub(crate) fn place_of(labels: &[LabelId], label: LabelId) -> usize
-    requires { IsAscending labels.now }
-    ensures { PartsAt labels.now label result }
+    requires { AreLabelsAscending labels.now }
+    ensures { PartsLabelsAt labels.now label result }
 {
     let mut low = 0;
     let mut high = labels.len();
@@ -95,8 +95,8 @@ pub(crate) fn place_of(labels: &[LabelId], label: LabelId) -> usize
 
 /// Whether the label, whose place this is, stands there.
 pub(crate) fn is_at(labels: &[LabelId], place: usize, label: LabelId) -> bool
-    requires ascending { IsAscending labels.now }
-    requires place { PartsAt labels.now label place }
+    requires ascending { AreLabelsAscending labels.now }
+    requires place { PartsLabelsAt labels.now label place }
     ensures { IsTrue result ↔ Contains labels.now label }
 {
     place < labels.len() && labels[place] == label
@@ -104,7 +104,7 @@ pub(crate) fn is_at(labels: &[LabelId], place: usize, label: LabelId) -> bool
 
 /// Whether the label is one of the ascending labels.
 pub(crate) fn has_label(labels: &[LabelId], label: LabelId) -> bool
-    requires { IsAscending labels.now }
+    requires { AreLabelsAscending labels.now }
     ensures { IsTrue result ↔ Contains labels.now label }
 {
     is_at(labels, place_of(labels, label), label)

@@ -8,7 +8,7 @@ ghost use Rattle.normal_law.specs.Closed.{Joins};
 ghost use Rattle.normal_law.specs.Fresh.{fresh_of};
 ghost use Rattle.normal_law.specs.NormalForm.{normal_form};
 ghost use Rattle.normal_form.specs.Grammar.{IsGrammar};
-ghost use Rattle.normal_form.specs.Rows.{IsAscending};
+ghost use Rattle.normal_form.specs.Rows.{AreLabelsAscending};
 
 use crate::above::above_rows;
 use crate::apart::{FIRST_FRESH, named_labels, normal_lists};
@@ -78,7 +78,7 @@ impl Normal {
     /// normal form. It is the empty list where no rule has b and c on its right, whatever labels they are.
     /// One look by number and one binary search in the row of b, which has an entry for each c that follows it.
     pub fn pair(&self, b: LabelId, c: LabelId) -> &[LabelId]
-        ensures ascending { IsAscending result.now }
+        ensures ascending { AreLabelsAscending result.now }
         ensures each { (a : ALabel) → Contains result.now a ↔ Joins (normal_form self.now) b c a }
     {
         self.joins.labels_of(b, c)
@@ -97,7 +97,7 @@ impl Normal {
     /// The label is below 1,000 or one of the fresh ones.
     pub fn up(&self, b: LabelId) -> &[LabelId]
         requires { b.0 < 1000 + (normal_form self.now).fresh }
-        ensures ascending { IsAscending result.now }
+        ensures ascending { AreLabelsAscending result.now }
         ensures each { (a : ALabel) → Contains result.now a ↔ IsUp self.now b a }
     {
         self.above[b.0 as usize].as_slice()
@@ -105,7 +105,7 @@ impl Normal {
 
     /// The labels, named or fresh, that stand for words which yield the empty word, ascending.
     pub fn empties(&self) -> &[LabelId]
-        ensures ascending { IsAscending result.now }
+        ensures ascending { AreLabelsAscending result.now }
         ensures each { (a : ALabel) → Contains result.now a ↔ IsEmpty (normal_form self.now) a }
     {
         self.empties.as_slice()

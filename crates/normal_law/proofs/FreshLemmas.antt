@@ -9,7 +9,7 @@ use Rattle.std.proofs.lemmas.Option.{slice_get_within, get_or_from_slice_get}
 use Rattle.graph_words.specs.declared.types.LabelId.{LabelId}
 use Rattle.graph_words.specs.declared.types.PairRule.{PairRule}
 use Rattle.graph_words.specs.declared.types.Rule.{Rule}
-use Rattle.normal_law.specs.Closure.{IsNamed, IsFresh, HasNamedLabels}
+use Rattle.normal_law.specs.Closure.{IsNamed, IsFreshLabel, HasNamedLabels}
 use Rattle.normal_law.specs.NormalForm.{pair, fresh_label, suffixes, fresh_words, pairs_from, all_pairs, normal_form}
 use Rattle.normal_law.specs.Fresh.{fresh_of, fresh_before, IsFreshOf}
 
@@ -68,7 +68,7 @@ place_of (r ∷ rs) k l = go (λ m. place_of rs (k - fresh_of r) (omega (arith, 
         next (i, a, b, c) = (suc i, omega arith, omega (arith, sum_by-cons fresh_of r (take i rs)), subst (λ (n : ℕ). k < fresh_before (r ∷ rs) n) (let s : suc (i + 1) ≡ suc i + 1 = omega arith in s) (omega (arith, sum_by-cons fresh_of r (take (i + 1) rs))))
 
 -- each fresh label is one of some rule
-pub IsFreshOf-some : (rules : List Rule) (l : LabelId) → IsFresh (normal_form rules) l → (i : ℕ) × IsFreshOf rules i l
+pub IsFreshOf-some : (rules : List Rule) (l : LabelId) → IsFreshLabel (normal_form rules) l → (i : ℕ) × IsFreshOf rules i l
 IsFreshOf-some rules l h =
     let p = place_of rules (l.0 - 1000) (omega (arith, length-fresh_words rules)) in
     (p.0, record { known = p.1; low = omega arith; high = omega arith })

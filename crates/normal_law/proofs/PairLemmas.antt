@@ -7,7 +7,7 @@ use Rattle.graph_words.specs.declared.types.LabelId.{LabelId}
 use Rattle.graph_words.specs.declared.types.PairRule.{PairRule}
 use Rattle.graph_words.specs.declared.types.Rule.{Rule}
 use Rattle.graph_words.specs.Reach.{rule}
-use Rattle.normal_law.specs.Closure.{IsNamed, IsFresh, IsLabelOf, HasNamedLabels}
+use Rattle.normal_law.specs.Closure.{IsNamed, IsFreshLabel, IsLabelOf, HasNamedLabels}
 use Rattle.normal_law.specs.NormalForm.{pair, fresh_label, suffixes, fresh_words, pairs_from, all_pairs, stands_for, normal_form}
 use Rattle.normal_law.proofs.Chains.{IsNormalForm-normal_form}
 
@@ -37,7 +37,7 @@ label_below rules l (inr h) = h.1
 pub pairs_left : (rules : List Rule) → HasNamedLabels rules → All (λ p. p.left.0 < 1000 + length (fresh_words rules)) (all_pairs 0 rules)
 pairs_left rules names k d l = go (get_or (all_pairs 0 rules) k d) ((IsNormalForm-normal_form rules names).only (get_or (all_pairs 0 rules) k d) (Contains-get_or (all_pairs 0 rules) k d l))
   where
-    go : (p : PairRule) → (IsNamed p.left × Contains rules (rule p.left (stands_for (fresh_words rules) p.first ++ stands_for (fresh_words rules) p.second))) ⊎ (IsFresh (normal_form rules) p.left × (stands_for (fresh_words rules) p.left ≡ stands_for (fresh_words rules) p.first ++ stands_for (fresh_words rules) p.second)) → p.left.0 < 1000 + length (fresh_words rules)
+    go : (p : PairRule) → (IsNamed p.left × Contains rules (rule p.left (stands_for (fresh_words rules) p.first ++ stands_for (fresh_words rules) p.second))) ⊎ (IsFreshLabel (normal_form rules) p.left × (stands_for (fresh_words rules) p.left ≡ stands_for (fresh_words rules) p.first ++ stands_for (fresh_words rules) p.second)) → p.left.0 < 1000 + length (fresh_words rules)
     go p (inl h) = label_below rules p.left (inl h.0)
     go p (inr h) = label_below rules p.left (inr h.0)
 

@@ -6,7 +6,7 @@ use Rattle.std.proofs.lemmas.Bool.{cases_lt}
 use Rattle.std.proofs.lemmas.List.{get_or-drop, get_or-take, take_all}
 use Rattle.std.proofs.lemmas.Option.{slice_get-get_or, slice_get_past, unwrap_or-slice_get}
 use Rattle.std.specs.Option.{unwrap_or}
-use Rattle.io_edge.specs.Devices.{Gives}
+use Rattle.io_edge.specs.Devices.{GivesBytes}
 use Rattle.open_store.specs.Answers.{DiffersFirst}
 
 -- the bytes in front that are the same grow by those of a piece
@@ -30,7 +30,7 @@ differs_at text file place len n same piece front within low piece-is not =
     }
 
 -- the text ends here
-pub text_ended : (text : List ℕ) (place : ℕ) (buf : List ℕ) (n : ℕ) → 0 < length buf → n ≡ 0 → Gives text place buf n → length text ≤ place
+pub text_ended : (text : List ℕ) (place : ℕ) (buf : List ℕ) (n : ℕ) → 0 < length buf → n ≡ 0 → GivesBytes text place buf n → length text ≤ place
 text_ended text place buf n some none gives = elim (cases_lt place (length text)) [ inl low ↦ absurd (omega (arith, gives.some some low, none)) | inr past ↦ past ]
 
 -- a text and a copy that end together and have the same bytes are the same

@@ -10,7 +10,7 @@ use Rattle.partition_file.specs.declared.types.PartFault.{PartFault}
 use Rattle.partition_file.specs.Reader.{Reader, ReadsPiece, prepend, rest_of, taken}
 use Rattle.partition_file.specs.FieldsRead.{Found, complete, ends_with, reading}
 use Rattle.partition_file.specs.Spelling.{IsBytes, found}
-use Rattle.open_store.specs.Stream.{HasEnded, HasRead}
+use Rattle.open_store.specs.Stream.{StreamEnds, HasRead}
 
 pub bytes_append : (xs ys : List ℕ) → IsBytes xs → IsBytes ys → IsBytes (xs ++ ys)
 bytes_append xs ys x-are y-are i = elim (cases_lt i (length xs)) [

@@ -4,7 +4,7 @@ use Rattle.graph_words.specs.declared.types.Born.{Born}
 use Rattle.closing_machine.specs.State.{greatest_birth, target}
 use Rattle.faults.specs.declared.form_kind.FormKind.{FormKind}
 use Rattle.faults.specs.declared.form_kind.FormKind.TheVariants.{Counts}
-use Rattle.partition_file.specs.Spelling.{Fits, Part, Spells, first_break}
+use Rattle.partition_file.specs.Spelling.{FitsPart, Part, SpellsPart, first_break}
 use Rattle.dest_map.specs.Table.{counts_of}
 use Rattle.pair_sched.specs.Marks.{newest_of}
 use Rattle.manifest_codec.specs.declared.types.Manifest.{Manifest}
@@ -22,16 +22,16 @@ pub record IsTold (m : Manifest) (i : ℕ) (edges : List Born) : Type 0 where
 
 -- the edges of partition i were read: they keep the rules of its format, the manifest tells of them, and the file spells them, where it is known
 pub record IsRead (s : OpenStore) (i : ℕ) (tells : Bool) (file : List ℕ) (edges : List Born) : Type 0 where
-  pub fits : Fits (expect_in s i) (part_of s.manifest i edges)
+  pub fits : FitsPart (expect_in s i) (part_of s.manifest i edges)
   pub told : IsTold s.manifest i edges
-  pub spells : IsTrue tells → Spells file (part_of s.manifest i edges)
+  pub spells : IsTrue tells → SpellsPart file (part_of s.manifest i edges)
 
 -- the bytes are no file of partition i: a field breaks its rule, or the manifest tells of other edges, which counts as a break at the start
 abbrev pub IsRefused : OpenStore → ℕ → List ℕ → ℕ → FormKind → Type 0
 IsRefused s i file place kind =
     (first_break (expect_in s i) file ≡ Some (record { place = place; kind = kind }))
-    ⊎ ((edges : List Born) × Fits (expect_in s i) (part_of s.manifest i edges)
-    × Spells file (part_of s.manifest i edges) × (IsTold s.manifest i edges → ⊥) × (place ≡ 0)
+    ⊎ ((edges : List Born) × FitsPart (expect_in s i) (part_of s.manifest i edges)
+    × SpellsPart file (part_of s.manifest i edges) × (IsTold s.manifest i edges → ⊥) × (place ≡ 0)
     × (kind ≡ Counts))
 
 -- how many of the edges end in interval i below a vertex

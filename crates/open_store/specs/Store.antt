@@ -6,7 +6,7 @@ use Rattle.normal_form.specs.Grammar.{IsGrammar}
 use Rattle.disk_model.specs.Disk.{Contents}
 use Rattle.partition_file.specs.declared.types.Expect.{Expect}
 use Rattle.manifest_codec.specs.declared.types.Manifest.{Manifest}
-use Rattle.manifest_codec.specs.Spelling.{Fits}
+use Rattle.manifest_codec.specs.Spelling.{FitsManifest}
 use Rattle.manifest_switch.specs.declared.slot.Slot.{Slot}
 use Rattle.manifest_switch.specs.declared.slot.Found.TheVariants.{At}
 use Rattle.manifest_switch.specs.Slots.{HasOnly, current_of}
@@ -22,7 +22,7 @@ pub record OpenStore : Type 0 where
 
 -- the manifest keeps the rules of its format, the grammar is within its limits, and the intervals are those of the manifest's partitions
 pub record IsOpenStore (s : OpenStore) : Type 0 where
-  pub fits : Fits s.manifest
+  pub fits : FitsManifest s.manifest
   pub grammar : IsGrammar s.rules
   pub ends_are : s.ends ≡ ends_of s.manifest
 

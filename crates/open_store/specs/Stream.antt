@@ -38,7 +38,7 @@ pub record IsAt (e : Expect) (tells : Bool) (file : List ℕ) (bytes : List ℕ)
   pub whole : IsTrue tells → s.len ≡ length file
 
 -- the file was read to its end: no field is missing, and these are its edges
-pub record HasEnded (e : Expect) (tells : Bool) (file bytes : List ℕ) (edges : List Born) : Type 0 where
+pub record StreamEnds (e : Expect) (tells : Bool) (file bytes : List ℕ) (edges : List Born) : Type 0 where
   pub are_bytes : IsBytes bytes
   pub few : length edges < 2 ^ 64
   pub gives : reading e bytes ≡ found edges

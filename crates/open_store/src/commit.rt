@@ -5,7 +5,7 @@ ghost use Rattle.store_fault.specs.Faults.{why_of};
 ghost use Rattle.disk_model.specs.Disk.{Contents};
 ghost use Rattle.disk_model.specs.Crash.{LeavesOnly};
 ghost use Rattle.disk_model.specs.View.{IsDurable, on_disk};
-ghost use Rattle.manifest_codec.specs.Spelling.{Fits};
+ghost use Rattle.manifest_codec.specs.Spelling.{FitsManifest};
 ghost use Rattle.manifest_switch.specs.Slots.{next_generation, other};
 ghost use Rattle.manifest_switch.specs.Steps.{IsAmid, IsSwitched};
 ghost use Rattle.store_law.specs.Listed.{ends_of};
@@ -22,7 +22,7 @@ use store_fault::StoreFault;
 
 // The intervals of a manifest's partitions.
 pub(crate) fn intervals_of(alloc: Global, manifest: &Manifest) -> Result<Intervals, AllocError>
-    requires { Fits manifest.now }
+    requires { FitsManifest manifest.now }
     ensures { IfOk result (λ v. v ≡ ends_of manifest.now) }
 {
     let parts = manifest.parts.as_slice();
@@ -50,7 +50,7 @@ impl Store {
         disk: &mut D,
         next: Manifest,
     ) -> Result<Store, StoreFault>
-        requires fits { Fits next }
+        requires fits { FitsManifest next }
         requires held { (c : Contents) → D.may_leave disk.old c → IsHeldAlone self c }
         requires generation { next.generation ≡ next_generation self.manifest.generation }
         requires grammar { next.grammar_len ≡ self.manifest.grammar_len }

@@ -3,7 +3,7 @@ ghost use Rattle.std.specs.Prelude.{◌≡◌, ◌≢◌, ◌<◌, ◌≤◌, �
 ghost use Rattle.std.specs.Prelude.{length, take, drop, slice_index_or, OnOk, IfOk, IfErr};
 ghost use Rattle.faults.specs.Counts.{HasCause, Rose};
 ghost use Rattle.disk_model.specs.View.{DiskRose, OnlyLooks};
-ghost use Rattle.io_edge.specs.Devices.{Gives};
+ghost use Rattle.io_edge.specs.Devices.{GivesBytes};
 ghost use Rattle.store_fault.specs.declared.fault.StoreFault.TheVariants.{ReadFault};
 ghost use Rattle.faults.specs.declared.kinds.InputFile.TheVariants.{Source};
 ghost use Rattle.io_edge.specs.View.{KeepsInputs, ReadRose};
@@ -96,7 +96,7 @@ fn next_piece<I: Inputs>(
     requires room { place + 65536 < 2 ^ 64 }
     requires piece { length piece.old.items ≡ 65536 }
     ensures within { IfOk result (λ n. n ≤ length piece.new.items) }
-    ensures bytes { IfOk result (λ n. (text : List ℕ) → I.told inputs.old name.now ≡ Some text → Gives text place piece.new.items n) }
+    ensures bytes { IfOk result (λ n. (text : List ℕ) → I.told inputs.old name.now ≡ Some text → GivesBytes text place piece.new.items n) }
     ensures piece { length piece.new.items ≡ 65536 }
     ensures cause { IfErr result (λ e. (e ≡ ReadFault) × Rose (I.faults inputs.old name.now) (I.faults inputs.new name.now)) }
     ensures keeps { KeepsInputs I.Inputs inputs.old inputs.new }

@@ -4,7 +4,7 @@ ghost use Rattle.faults.specs.Reasons.{HasReason};
 ghost use Rattle.store_fault.specs.Faults.{why_of};
 ghost use Rattle.graph_words.specs.declared.types.Rule.{Rule as ARule};
 ghost use Rattle.grammar_norm.specs.GrammarText.{ReadsGrammar};
-ghost use Rattle.manifest_codec.specs.Spelling.{Fits};
+ghost use Rattle.manifest_codec.specs.Spelling.{FitsManifest};
 ghost use Rattle.manifest_switch.specs.Slots.{file_of};
 ghost use Rattle.faults.specs.declared.form_kind.FormKind.TheVariants.{Short};
 ghost use Rattle.disk_model.specs.View.{OnlyLooks, on_disk};
@@ -85,7 +85,7 @@ pub(crate) fn grammar_of<D: Disk>(
     slot: Slot,
     manifest: &Manifest,
 ) -> Result<Grammar, StoreFault>
-    requires { Fits manifest.now }
+    requires { FitsManifest manifest.now }
     ensures read { IsTrue D.tells → IfOk result (λ rules. IsCopyRead manifest.now (D.seen disk.old 2) rules) }
     ensures looks { OnlyLooks D.Disk disk.old disk.new }
     ensures cause { HasReason why_of (on_disk D.Disk disk.old disk.new

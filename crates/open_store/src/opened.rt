@@ -4,7 +4,7 @@ ghost use Rattle.faults.specs.Reasons.{HasReason};
 ghost use Rattle.store_fault.specs.Faults.{why_of};
 ghost use Rattle.disk_model.specs.Disk.{Contents};
 ghost use Rattle.disk_model.specs.View.{IsDurable, LeavesBy, OnlyLooks, on_disk};
-ghost use Rattle.manifest_codec.specs.Spelling.{Fits};
+ghost use Rattle.manifest_codec.specs.Spelling.{FitsManifest};
 ghost use Rattle.manifest_switch.specs.Steps.{Stays};
 ghost use Rattle.store_law.specs.Listed.{ends_of};
 ghost use Rattle.open_store.specs.declared.opened.OpenMode.TheVariants.{Change, Look};
@@ -46,7 +46,7 @@ fn store_of<D: Disk>(
     slot: Slot,
     manifest: Manifest,
 ) -> Result<Store, StoreFault>
-    requires { Fits manifest }
+    requires { FitsManifest manifest }
     ensures store { IfOk result (λ s. (s.slot ≡ slot) × (s.manifest ≡ manifest) × (s.ends ≡ ends_of manifest)) }
     ensures copy { IsTrue D.tells → IfOk result (λ s. IsCopyRead manifest (D.seen disk.old 2) s.rules) }
     ensures looks { OnlyLooks D.Disk disk.old disk.new }

@@ -10,7 +10,7 @@ ghost use Rattle.partition_file.specs.Reader.{rest_of};
 ghost use Rattle.partition_file.specs.FieldsRead.{complete};
 ghost use Rattle.partition_file.specs.Spelling.{IsBytes, first_break};
 ghost use Rattle.store_fault.specs.declared.fault.StoreFault.TheVariants.{BadStore, DiskFault};
-ghost use Rattle.open_store.specs.Stream.{HasEnded, IsAt, IsStream};
+ghost use Rattle.open_store.specs.Stream.{StreamEnds, IsAt, IsStream};
 
 use disk_model::{Disk, Failed};
 use graph_words::Born;
@@ -76,7 +76,7 @@ impl PartStream {
         ensures end { result ≡ Ok false → (e : AnExpect) (file bytes : List ℕ) (front : List ABorn)
             → (IsTrue D.tells → D.seen disk.old self.old.file ≡ file)
             → IsAt e D.tells file bytes (front ++ edges.old.items) self.old
-            → HasEnded e D.tells file bytes (front ++ edges.old.items) × (edges.new ≡ edges.old) }
+            → StreamEnds e D.tells file bytes (front ++ edges.old.items) × (edges.new ≡ edges.old) }
         ensures file { self.new.file ≡ self.old.file }
         ensures further { result ≡ Ok true → (self.old.place < self.new.place) × (self.new.len ≡ self.old.len) }
         ensures looks { OnlyLooks D.Disk disk.old disk.new }

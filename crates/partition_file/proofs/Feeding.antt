@@ -13,8 +13,8 @@ use Rattle.partition_file.specs.declared.types.Completed.TheVariants as complete
 use Rattle.partition_file.specs.declared.types.RowStep.{RowStep}
 use Rattle.partition_file.specs.declared.types.RowStep.TheVariants as steps
 use Rattle.partition_file.specs.FieldsRead.{Behind, complete, number, stop, magic_at, low_at, high_at, count_at, label_at, destination_at, birth_at, end_at, magic_then, low_then, high_then, count_then, label_then, destination_then, birth_then}
-use Rattle.partition_file.specs.Stages.{stage_at, width_of, is_whole, IsField, IsNext, IsStage, IsCompleted, completed_at, stage_behind, step_of, behind_row, behind_edge}
-use Rattle.partition_file.specs.Reader.{Reader, IsOpen, rest_of, Feeds, Gives, Uses}
+use Rattle.partition_file.specs.Stages.{stage_at, width_of, is_whole, IsField, IsNextStage, IsStage, IsCompleted, completed_at, stage_behind, step_of, behind_row, behind_edge}
+use Rattle.partition_file.specs.Reader.{Reader, IsOpen, rest_of, FeedsField, GivesStep, Uses}
 
 number_short : (w place : ℕ) (bytes : List ℕ) (next : ℕ → Behind) → length bytes < w → number w place bytes next ≡ stop place Short
 number_short w place bytes next lt = rw (lt-ltb (length bytes) w lt) refl
@@ -43,7 +43,7 @@ reader e s place held = record { expect = e; stage = s; place = place; held = he
 pub is_open : (e : Expect) (s : Stage) (place : ℕ) (held : List ℕ) → IsNoFault s → length held < width_of s → IsOpen (reader e s place held)
 is_open e s place held n lt = rw (append-nil held) (short e s place held n lt)
 
-pub no_fault_from_next : (e : Expect) (s : Stage) → IsNext e s → IsNoFault s
+pub no_fault_from_next : (e : Expect) (s : Stage) → IsNextStage e s → IsNoFault s
 no_fault_from_next e stages.Magic n = tt
 no_fault_from_next e (stages.Low f) n = tt
 no_fault_from_next e (stages.High f) n = tt
@@ -54,7 +54,7 @@ no_fault_from_next e (stages.Birth edge left) n = tt
 no_fault_from_next e stages.End n = tt
 no_fault_from_next e (stages.Fault f) n = absurd n
 
-pub stage_from_next : (e : Expect) (s : Stage) → IsNext e s → IsStage e s
+pub stage_from_next : (e : Expect) (s : Stage) → IsNextStage e s → IsStage e s
 stage_from_next e stages.Magic n = tt
 stage_from_next e (stages.Low f) n = tt
 stage_from_next e (stages.High f) n = tt
@@ -145,7 +145,7 @@ no_fault_from_not stages.End n = tt
 no_fault_from_not (stages.Fault f) n = n f refl
 
 -- a whole field was taken
-pub completes : (e : Expect) (s : Stage) (place w : ℕ) (front bytes : List ℕ) (c : Completed) → ((more : List ℕ) → stage_at e s place (front ++ (bytes ++ more)) ≡ completed_at e c (place + w) more) → IsCompleted e c → Feeds (reader e s place front) (reader e (stage_behind c) (place + w) []) bytes (step_of c)
+pub completes : (e : Expect) (s : Stage) (place w : ℕ) (front bytes : List ℕ) (c : Completed) → ((more : List ℕ) → stage_at e s place (front ++ (bytes ++ more)) ≡ completed_at e c (place + w) more) → IsCompleted e c → FeedsField (reader e s place front) (reader e (stage_behind c) (place + w) []) bytes (step_of c)
 completes e s place w front bytes (completed.On next) leads is = (leads, is_open e next (place + w) [] (no_fault_from_next e next is) (width_at_least next))
 completes e s place w front bytes (completed.Edge b next) leads is = leads
 completes e s place w front bytes (completed.Fault f) leads is = (leads, refl)
@@ -156,17 +156,17 @@ stage_is_kept e (completed.Edge b next) is = stage_from_next e next is
 stage_is_kept e (completed.Fault f) is = tt
 
 -- bytes before, and some that give a step
-pub chained : (old mid new : Reader) (front bytes : List ℕ) (step : RowStep) → ((more : List ℕ) → rest_of old (front ++ more) ≡ rest_of mid more) → Feeds mid new bytes (Some step) → Gives old new (front ++ bytes) step
+pub chained : (old mid new : Reader) (front bytes : List ℕ) (step : RowStep) → ((more : List ℕ) → rest_of old (front ++ more) ≡ rest_of mid more) → FeedsField mid new bytes (Some step) → GivesStep old new (front ++ bytes) step
 chained old mid new front bytes steps.More so_far fed = absurd fed
 chained old mid new front bytes (steps.Edge b) so_far fed = λ more. ap (rest_of old) (append_assoc front bytes more) ∙ so_far (bytes ++ more) ∙ fed more
 chained old mid new front bytes (steps.Fault f) so_far fed = (λ more. ap (rest_of old) (append_assoc front bytes more) ∙ so_far (bytes ++ more) ∙ fed.0 more, fed.1)
 chained old mid new front bytes steps.End so_far fed = absurd fed
 
 -- bytes before, and some within a field
-pub chained_more : (old mid new : Reader) (front bytes : List ℕ) → ((more : List ℕ) → rest_of old (front ++ more) ≡ rest_of mid more) → Feeds mid new bytes None → (more : List ℕ) → rest_of old ((front ++ bytes) ++ more) ≡ rest_of new more
+pub chained_more : (old mid new : Reader) (front bytes : List ℕ) → ((more : List ℕ) → rest_of old (front ++ more) ≡ rest_of mid more) → FeedsField mid new bytes None → (more : List ℕ) → rest_of old ((front ++ bytes) ++ more) ≡ rest_of new more
 chained_more old mid new front bytes so_far fed = λ more. ap (rest_of old) (append_assoc front bytes more) ∙ so_far (bytes ++ more) ∙ fed.0 more
 
-pub used_by : (mid new : Reader) (bytes : List ℕ) (n used : ℕ) (step : RowStep) → 0 < used → used ≤ n → Feeds mid new bytes (Some step) → Uses n used step
+pub used_by : (mid new : Reader) (bytes : List ℕ) (n used : ℕ) (step : RowStep) → 0 < used → used ≤ n → FeedsField mid new bytes (Some step) → Uses n used step
 used_by mid new bytes n used steps.More some le fed = absurd fed
 used_by mid new bytes n used (steps.Edge b) some le fed = (some, le)
 used_by mid new bytes n used (steps.Fault f) some le fed = le

@@ -13,7 +13,7 @@ use Rattle.partition_file.specs.declared.types.Format.TheVariants.{First}
 use Rattle.partition_file.specs.declared.types.PartError.{PartError}
 use Rattle.partition_file.specs.declared.types.PartError.TheVariants as errors
 use Rattle.partition_file.specs.FieldsRead.{Found, need, rows_of, first_magic, format_of, in_format, high_at, high_then, low_at, low_then, magic_at, magic_then, reading}
-use Rattle.partition_file.specs.Spelling.{found, Part, FitsEdge, Fits, IsBytes, IsExpect, rows_bytes, spelling, Spells, Decodes, Answers}
+use Rattle.partition_file.specs.Spelling.{found, Part, FitsEdge, FitsPart, IsBytes, IsExpect, rows_bytes, spelling, SpellsPart, DecodesPart, AnswersPart}
 use Rattle.partition_file.proofs.NumberLaws.{Takes-then, wide4, need_takes, number_takes, number_again}
 use Rattle.partition_file.proofs.Splits.{Above, Ascends-from_pairs, pairs_from_Ascends}
 use Rattle.partition_file.proofs.RowLaws.{rows_take, rows_again}
@@ -40,7 +40,7 @@ header bytes m m' l l' h h' rest rest' given em el eh er =
     ∙ ap (λ (x : ℕ). ((little_bytes 4 m' ++ little_bytes 4 l') ++ little_bytes 4 x) ++ rest) eh
     ∙ ap (λ (x : List ℕ). ((little_bytes 4 m' ++ little_bytes 4 l') ++ little_bytes 4 h') ++ x) er
 
-pub file_takes : (e : Expect) (bytes : List ℕ) (es : List Born) → e.lo < e.hi → IsBytes bytes → length es < 2 ^ 64 → reading e bytes ≡ found es → Spells bytes (part e es) × Fits e (part e es)
+pub file_takes : (e : Expect) (bytes : List ℕ) (es : List Born) → e.lo < e.hi → IsBytes bytes → length es < 2 ^ 64 → reading e bytes ≡ found es → SpellsPart bytes (part e es) × FitsPart e (part e es)
 unfolding magic_at magic_then low_at low_then high_at high_then
 file_takes e bytes es bounds fits few given =
     let m = number_takes 4 wide4 0 bytes (magic_then e 0) es fits given in
@@ -75,7 +75,7 @@ low_rows p (b ∷ es) h lt = let q = low_rows p es h.1 lt in ((h.0.0, q.0), (ome
 test_same : (n : ℕ) → eqb n n ≡ true
 test_same n = grind (arith, nat_tests)
 
-spelled_again : (e : Expect) (es : List Born) → IsExpect e → Fits e (part e es) → reading e (spelling First (part e es)) ≡ found es
+spelled_again : (e : Expect) (es : List Born) → IsExpect e → FitsPart e (part e es) → reading e (spelling First (part e es)) ≡ found es
 unfolding magic_at magic_then low_at low_then high_at high_then
 spelled_again e es ex fits =
     let w = low_rows (part e es) es (recursion_from_All (λ b. (e.lo ≤ b.edge.src.0) × (b.edge.src.0 < e.hi)) es fits.part.within) fits.part.bounds in
@@ -89,27 +89,27 @@ spelled_again e es ex fits =
     ∙ ap (λ (t : Bool). need t 8 BadBounds (rows_of First e e.lo 12 rows)) (test_same e.hi)
     ∙ rows_again e (e.hi - e.lo) e.lo 12 es ex w.0 w.1 (recursion_from_All (FitsEdge e) es fits.each) (Ascends-from_pairs es fits.part.ascending) fits.few
 
-the_part : (e : Expect) (p : Part) → Fits e p → p ≡ part e p.edges
+the_part : (e : Expect) (p : Part) → FitsPart e p → p ≡ part e p.edges
 the_part e p fits = rw (← fits.lo, ← fits.hi) refl
 
-pub file_again : (e : Expect) (bytes : List ℕ) (p : Part) → IsExpect e → Fits e p → Spells bytes p → reading e bytes ≡ found p.edges
+pub file_again : (e : Expect) (bytes : List ℕ) (p : Part) → IsExpect e → FitsPart e p → SpellsPart bytes p → reading e bytes ≡ found p.edges
 file_again e bytes p ex fits (First, text) =
     let same = the_part e p fits in
-    ap (reading e) (text ∙ ap (spelling First) same) ∙ spelled_again e p.edges ex (subst (Fits e) same fits)
+    ap (reading e) (text ∙ ap (spelling First) same) ∙ spelled_again e p.edges ex (subst (FitsPart e) same fits)
 
-pub only_at_ok : (e : Expect) (bytes : List ℕ) (es : List Born) (p : Part) → IsExpect e → reading e bytes ≡ found es → Fits e p → Spells bytes p → part e es ≡ p
+pub only_at_ok : (e : Expect) (bytes : List ℕ) (es : List Born) (p : Part) → IsExpect e → reading e bytes ≡ found es → FitsPart e p → SpellsPart bytes p → part e es ≡ p
 only_at_ok e bytes es p ex given fits spells =
     let again = file_again e bytes p ex fits spells in
     let same : es ≡ p.edges = ap (λ (x : Found). x.edges) (sym given ∙ again) in
     ap (part e) same ∙ sym (the_part e p fits)
 
-pub only_at_err : {X : Type 0} (view : X → List Born) (e : Expect) (bytes : List ℕ) (x : PartError) (p : Part) → IsExpect e → Decodes view (Err x) (reading e bytes) → Fits e p → Spells bytes p → Answers (Err x) p
+pub only_at_err : {X : Type 0} (view : X → List Born) (e : Expect) (bytes : List ℕ) (x : PartError) (p : Part) → IsExpect e → DecodesPart view (Err x) (reading e bytes) → FitsPart e p → SpellsPart bytes p → AnswersPart (Err x) p
 only_at_err view e bytes (errors.Fault f) p ex given fits spells =
     let again : (reading e bytes).fault ≡ None = ap (λ (x : Found). x.fault) (file_again e bytes p ex fits spells) in
     absurd (cc)
 only_at_err view e bytes errors.NoMemory p ex given fits spells = tt
 
 -- bytes spell at most one partition that is expected
-pub one_part : (e : Expect) (bytes : List ℕ) (p q : Part) → IsExpect e → Fits e p → Fits e q → Spells bytes p → Spells bytes q → p ≡ q
+pub one_part : (e : Expect) (bytes : List ℕ) (p q : Part) → IsExpect e → FitsPart e p → FitsPart e q → SpellsPart bytes p → SpellsPart bytes q → p ≡ q
 one_part e bytes p q ex p-fits q-fits p-spells q-spells =
     the_part e p p-fits ∙ only_at_ok e bytes p.edges q ex (file_again e bytes p ex p-fits p-spells) q-fits q-spells

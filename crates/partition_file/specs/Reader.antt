@@ -41,21 +41,21 @@ abbrev pub IsOpen : Reader → Type 0
 IsOpen r = (rest_of r [] ≡ complete) ⊎ (rest_of r [] ≡ stop r.place Short)
 
 -- a reader whose stream met this fault
-abbrev pub HasFault : Reader → PartFault → Type 0
-HasFault r f = r.stage ≡ stages.Fault f
+abbrev pub HasPartFault : Reader → PartFault → Type 0
+HasPartFault r f = r.stage ≡ stages.Fault f
 
 -- a step that a call gave, which used `bytes`: whatever bytes come behind them, the old reader would give the step and then what the new one gives
-abbrev pub Gives : Reader → Reader → List ℕ → RowStep → Type 0
-Gives old new bytes steps.More = ((more : List ℕ) → rest_of old (bytes ++ more) ≡ rest_of new more) × IsOpen new
-Gives old new bytes (steps.Edge b) = (more : List ℕ) → rest_of old (bytes ++ more) ≡ then_found b (rest_of new more)
-Gives old new bytes (steps.Fault f) = ((more : List ℕ) → rest_of old (bytes ++ more) ≡ ends_with f) × HasFault new f
-Gives old new bytes steps.End = ⊥
+abbrev pub GivesStep : Reader → Reader → List ℕ → RowStep → Type 0
+GivesStep old new bytes steps.More = ((more : List ℕ) → rest_of old (bytes ++ more) ≡ rest_of new more) × IsOpen new
+GivesStep old new bytes (steps.Edge b) = (more : List ℕ) → rest_of old (bytes ++ more) ≡ then_found b (rest_of new more)
+GivesStep old new bytes (steps.Fault f) = ((more : List ℕ) → rest_of old (bytes ++ more) ≡ ends_with f) × HasPartFault new f
+GivesStep old new bytes steps.End = ⊥
 
 -- bytes within a field, and the step that they give where they end the field
-abbrev pub Feeds : Reader → Reader → List ℕ → Option RowStep → Type 0
-Feeds old new bytes None = Gives old new bytes steps.More
-Feeds old new bytes (Some steps.More) = ⊥
-Feeds old new bytes (Some step) = Gives old new bytes step
+abbrev pub FeedsField : Reader → Reader → List ℕ → Option RowStep → Type 0
+FeedsField old new bytes None = GivesStep old new bytes steps.More
+FeedsField old new bytes (Some steps.More) = ⊥
+FeedsField old new bytes (Some step) = GivesStep old new bytes step
 
 -- how many of n bytes a step uses: all, or at least the last one of an edge
 abbrev pub Uses : ℕ → ℕ → RowStep → Type 0
@@ -64,10 +64,10 @@ Uses n used (steps.Edge b) = (0 < used) × (used ≤ n)
 Uses n used _ = used ≤ n
 
 -- what the end of the bytes gives
-abbrev pub Finishes : Reader → Reader → RowStep → Type 0
-Finishes old new steps.End = (rest_of old [] ≡ complete) × (new ≡ old)
-Finishes old new (steps.Fault f) = (rest_of old [] ≡ ends_with f) × HasFault new f
-Finishes old new _ = ⊥
+abbrev pub FinishesReading : Reader → Reader → RowStep → Type 0
+FinishesReading old new steps.End = (rest_of old [] ≡ complete) × (new ≡ old)
+FinishesReading old new (steps.Fault f) = (rest_of old [] ≡ ends_with f) × HasPartFault new f
+FinishesReading old new _ = ⊥
 
 -- edges in front of those that are still to come
 abbrev pub prepend : List Born → Found → Found

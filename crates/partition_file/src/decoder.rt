@@ -2,7 +2,7 @@ ghost use Rattle.std.specs.Prelude.{◌≡◌, ◌+◌, ◌*◌, ◌<◌, ◌≤
 ghost use Rattle.partition_file.specs.FieldsRead.{reading};
 ghost use Rattle.std.specs.List.{flat_map};
 ghost use Rattle.partition_file.specs.Reader.{taken, ReadsPiece};
-ghost use Rattle.partition_file.specs.Spelling.{Part, Fits, Spells, Decodes, Answers};
+ghost use Rattle.partition_file.specs.Spelling.{Part, FitsPart, SpellsPart, DecodesPart, AnswersPart};
 
 use crate::format::{COUNT_LEN, EDGE_LEN, HEAD_LEN};
 use crate::partition::Partition;
@@ -72,7 +72,7 @@ pub fn most_edges(len: usize, expect: &Expect) -> usize
 /// The edges that the bytes give.
 fn edges_of(alloc: Global, bytes: &[u8], expect: &Expect) -> Result<Vec<Born>, PartError>
     requires { expect.now.lo < expect.now.hi }
-    ensures { Decodes (λ v. v.items) result (reading expect.now bytes.now) }
+    ensures { DecodesPart (λ v. v.items) result (reading expect.now bytes.now) }
 {
     let mut reader = RowReader::new(*expect);
     let mut edges = Vec::with_capacity(alloc, most_edges(bytes.len(), expect))?;
@@ -92,11 +92,11 @@ fn edges_of(alloc: Global, bytes: &[u8], expect: &Expect) -> Result<Vec<Born>, P
 pub fn decode(alloc: Global, bytes: &[u8], expect: &Expect) -> Result<Partition, PartError>
     requires { expect.now.lo < expect.now.hi }
     // What is decoded keeps the rules, and is spelled so.
-    ensures found { IfOk result (λ p. Spells bytes.now p × Fits expect.now p) }
+    ensures found { IfOk result (λ p. SpellsPart bytes.now p × FitsPart expect.now p) }
     // What keeps the rules and is spelled so is decoded, unless memory runs out.
-    ensures only { (p : Part) → Fits expect.now p → Spells bytes.now p → Answers result p }
+    ensures only { (p : Part) → FitsPart expect.now p → SpellsPart bytes.now p → AnswersPart result p }
     // Which field breaks its rule first.
-    ensures exact { Decodes (λ p. p.edges) result (reading expect.now bytes.now) }
+    ensures exact { DecodesPart (λ p. p.edges) result (reading expect.now bytes.now) }
 {
     let lo = expect.lo;
     let hi = expect.hi;

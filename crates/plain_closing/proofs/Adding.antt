@@ -14,7 +14,7 @@ use Rattle.graph_words.specs.Reach.{Graph, edge}
 use Rattle.normal_law.specs.Closure.{Normal}
 use Rattle.normal_law.specs.Closed.{Joins}
 use Rattle.normal_law.proofs.ClosedLemmas.{Closure-join}
-use Rattle.plain_closing.specs.Begin.{AddsEach, AddsOf, IsBetween}
+use Rattle.plain_closing.specs.Begin.{AddsEach, AddsOf, IsEdgeBetween}
 use Rattle.plain_closing.specs.Joins.{HasJoins, HasJoinsBelow, HasJoinsWith, HasAllJoins, AddsMade, AddsNew, IsClosing, join_of}
 
 pub AddsMade-none : (n : Normal) (edges : List Edge) → AddsMade n edges edges
@@ -125,20 +125,20 @@ AddsOf-keeps P a b p x m = subst (λ (l : List Edge). Contains l x) (sym p.at_en
 
 -- Edges were added for the first k labels.
 pub record IsAdding (u : Vertex) (labels : List LabelId) (v : Vertex) (k : ℕ) (before now : List Edge) : Type 0 where
-  pub grown : AddsOf (IsBetween u labels v) before now
+  pub grown : AddsOf (IsEdgeBetween u labels v) before now
   pub has : AllWithin (λ (a : LabelId). Contains now (edge u a v)) labels 0 k
 
 pub IsAdding-start : (u : Vertex) (labels : List LabelId) (v : Vertex) (edges : List Edge) → IsAdding u labels v 0 edges edges
-IsAdding-start u labels v edges = record { grown = AddsOf-none (IsBetween u labels v) edges; has = AllWithin-none (λ (a : LabelId). Contains edges (edge u a v)) labels 0 }
+IsAdding-start u labels v edges = record { grown = AddsOf-none (IsEdgeBetween u labels v) edges; has = AllWithin-none (λ (a : LabelId). Contains edges (edge u a v)) labels 0 }
 
 pub IsAdding-step : (u : Vertex) (labels : List LabelId) (v : Vertex) (k : ℕ) (before now after : List Edge) (d : LabelId) → k < length labels → IsAdding u labels v k before now → AddsNew now after (edge u (get_or labels k d) v) → IsAdding u labels v (k + 1) before after
 IsAdding-step u labels v k before now after d h g a =
     let l = get_or labels k d in
-    let new = AddsOf-new (IsBetween u labels v) now after (edge u l v) (l, Contains-get_or labels k d h, refl) a in
+    let new = AddsOf-new (IsEdgeBetween u labels v) now after (edge u l v) (l, Contains-get_or labels k d h, refl) a in
     record {
-      grown = AddsOf-then (IsBetween u labels v) before now after g.grown new;
+      grown = AddsOf-then (IsEdgeBetween u labels v) before now after g.grown new;
       has =
-          AllWithin-more (λ (x : LabelId). Contains after (edge u x v)) labels 0 k (λ i x le s. AddsOf-keeps (IsBetween u labels v) now after new (edge u (get_or labels i x) v) (g.has i x le s))
+          AllWithin-more (λ (x : LabelId). Contains after (edge u x v)) labels 0 k (λ i x le s. AddsOf-keeps (IsEdgeBetween u labels v) now after new (edge u (get_or labels i x) v) (g.has i x le s))
           (at_read labels (λ (x : LabelId). Contains after (edge u x v)) k l h (get_or_default labels k d l h) (AddsNew-has now after (edge u l v) a));
     }
 
@@ -154,10 +154,10 @@ AddsMade-joins n labels first second before after p q follows joins a =
     record {
       added = a.grown.added;
       at_end = a.grown.at_end;
-      made = λ g all. All-weaker (IsBetween first.src labels second.dst) (IsClosing n g) (made g all) a.grown.added a.grown.each;
+      made = λ g all. All-weaker (IsEdgeBetween first.src labels second.dst) (IsClosing n g) (made g all) a.grown.added a.grown.each;
     }
   where
-    made : (g : Graph) → All (IsClosing n g) before → (e : Edge) → IsBetween first.src labels second.dst e → IsClosing n g e
+    made : (g : Graph) → All (IsClosing n g) before → (e : Edge) → IsEdgeBetween first.src labels second.dst e → IsClosing n g e
     made g all e b =
         let x = All-contains (IsClosing n g) before first all p in
         let y = subst (λ (w : Vertex). IsClosing n g (edge w second.label second.dst)) (sym follows) (All-contains (IsClosing n g) before second all q) in

@@ -10,7 +10,7 @@ use Rattle.graph_words.specs.declared.types.LabelId.{LabelId}
 use Rattle.graph_words.specs.declared.types.Edge.{Edge}
 use Rattle.graph_words.specs.Reach.{edge}
 use Rattle.normal_law.specs.Closure.{Normal, IsUp, IsEmpty}
-use Rattle.plain_closing.specs.Begin.{AddsEach, AddsOf, IsAboveSome, IsBetween, IsLoop}
+use Rattle.plain_closing.specs.Begin.{AddsEach, AddsOf, IsAboveSome, IsEdgeBetween, IsLoop}
 use Rattle.plain_closing.specs.Joins.{HasAbove, HasLoops}
 use Rattle.plain_closing.proofs.Adding.{AddsOf-keeps, AddsOf-none, AddsOf-then}
 
@@ -26,17 +26,17 @@ pub IsGathering-step : (n : Normal) (graph : List Edge) (k : ℕ) (labels : List
 IsGathering-step n graph k labels now after d h g up a =
     record {
       above =
-          AllWithin-more (HasAbove n after) graph 0 k (λ i x le s l above. AddsOf-keeps (IsBetween e.src labels e.dst) now after a.grown (edge (get_or graph i x).src l (get_or graph i x).dst) (g.above i x le s l above))
+          AllWithin-more (HasAbove n after) graph 0 k (λ i x le s l above. AddsOf-keeps (IsEdgeBetween e.src labels e.dst) now after a.grown (edge (get_or graph i x).src l (get_or graph i x).dst) (g.above i x le s l above))
           (at_read graph (HasAbove n after) k e h (get_or_default graph k d e h) (λ l is. All-contains (λ (x : LabelId). Contains after (edge e.src x e.dst)) labels l a.has ((up l).1 is)));
       only =
           subst (All (IsAboveSome n graph)) (sym a.grown.at_end)
-          (All-append (IsAboveSome n graph) now a.grown.added g.only (All-weaker (IsBetween e.src labels e.dst) (IsAboveSome n graph) above a.grown.added a.grown.each));
+          (All-append (IsAboveSome n graph) now a.grown.added g.only (All-weaker (IsEdgeBetween e.src labels e.dst) (IsAboveSome n graph) above a.grown.added a.grown.each));
     }
   where
     e : Edge
     e = get_or graph k d
 
-    above : (x : Edge) → IsBetween e.src labels e.dst x → IsAboveSome n graph x
+    above : (x : Edge) → IsEdgeBetween e.src labels e.dst x → IsAboveSome n graph x
     above x b = subst (IsAboveSome n graph) (sym b.2) (e.label, Contains-get_or graph k d h, (up b.0).0 b.1)
 
 -- The loops of the vertices below v are there.
@@ -57,11 +57,11 @@ IsLooping-step n vertices v labels before now after h g empties a =
     here : Vertex
     here = record { 0 = v }
 
-    is_loop : (e : Edge) → IsBetween here labels here e → IsLoop n vertices e
+    is_loop : (e : Edge) → IsEdgeBetween here labels here e → IsLoop n vertices e
     is_loop e b = subst (IsLoop n vertices) (sym b.2) (refl, h, (empties b.0).0 b.1)
 
     new : AddsOf (IsLoop n vertices) now after
-    new = record { added = a.grown.added; at_end = a.grown.at_end; each = All-weaker (IsBetween here labels here) (IsLoop n vertices) is_loop a.grown.added a.grown.each }
+    new = record { added = a.grown.added; at_end = a.grown.at_end; each = All-weaker (IsEdgeBetween here labels here) (IsLoop n vertices) is_loop a.grown.added a.grown.each }
 
     at : (u : ℕ) → (u < v) ⊎ (v ≤ u) → u < v + 1 → HasLoops n after u
     at u (inl l) _ = λ x e. AddsOf-keeps (IsLoop n vertices) now after new (edge (record { 0 = u }) x (record { 0 = u })) (g.loops u l x e)

@@ -12,12 +12,12 @@ pub record AddsOf (P : Edge → Type 0) (before after : List Edge) : Type 0 wher
   pub each : All P added
 
 -- an edge between two vertices with one of the labels
-abbrev pub IsBetween : Vertex → List LabelId → Vertex → Edge → Type 0
-IsBetween u labels v e = (a : LabelId) × Contains labels a × (e ≡ edge u a v)
+abbrev pub IsEdgeBetween : Vertex → List LabelId → Vertex → Edge → Type 0
+IsEdgeBetween u labels v e = (a : LabelId) × Contains labels a × (e ≡ edge u a v)
 
 -- an edge between two vertices was added for each of the labels, unless it was there
 pub record AddsEach (u : Vertex) (labels : List LabelId) (v : Vertex) (before after : List Edge) : Type 0 where
-  pub grown : AddsOf (IsBetween u labels v) before after
+  pub grown : AddsOf (IsEdgeBetween u labels v) before after
   pub has : All (λ a. Contains after (edge u a v)) labels
 
 -- the label is above that of some edge of these with the same ends

@@ -23,7 +23,7 @@ use Rattle.store_law.specs.Listed.{ends_of, part_of}
 use Rattle.store_law.proofs.Intervals.{cut_from_cover, listed_partitions}
 use Rattle.open_store.specs.Store.{IsOpenStore, OpenStore, expect_in}
 use Rattle.open_store.proofs.Places.{cut_of_cover, place_of_lies}
-use Rattle.query_text.specs.Answered.{AreListedIn, AreRead, IsPrinted, first_asked, wanted}
+use Rattle.query_text.specs.Answered.{AreListedIn, AreRead, ArePartsPrinted, first_asked, wanted}
 use Rattle.query_text.specs.Text.{answer_line, answers_in, answers_text, is_answer}
 use Rattle.query_text.specs.declared.fault.AnswerFault.{AnswerFault}
 use Rattle.query_text.proofs.Places.{answers_from}
@@ -65,7 +65,7 @@ module _ (s : OpenStore) (o : IsOpenStore s) (tells : Bool) (t : IsTrue tells) (
       ext_get_or [] read parts (all ∙ sym listed.size) (λ i below. let e : 0 + i ≡ i = omega arith in subst (λ (n : ℕ). slice_index_or read i [] ≡ slice_index_or parts n []) e (each_listed s o tells c 0 read parts t are listed i below))
 
   -- the text of all that is listed, or a prefix of it
-  pub listed_all : {T : Type 0} (text : List Born → List ℕ) (a b : Option (List ℕ)) (result : Result T AnswerFault) (read : List (List Born)) → ((xs ys : List Born) → text (xs ++ ys) ≡ text xs ++ text ys) → IsPrinted s tells c 0 (length s.manifest.parts) text a b result read → Takes a b result (text (all_edges parts))
+  pub listed_all : {T : Type 0} (text : List Born → List ℕ) (a b : Option (List ℕ)) (result : Result T AnswerFault) (read : List (List Born)) → ((xs ys : List Born) → text (xs ++ ys) ≡ text xs ++ text ys) → ArePartsPrinted s tells c 0 (length s.manifest.parts) text a b result read → Takes a b result (text (all_edges parts))
   listed_all text a b (Ok x) read joins p = subst (λ (l : List (List Born)). Appends a b (text (all_edges l))) (read_all read p.are_read p.all) p.taken
   listed_all text a b (Err f) read joins p =
       let rest = front read p.are_read in
@@ -82,7 +82,7 @@ module _ (s : OpenStore) (o : IsOpenStore s) (tells : Bool) (t : IsTrue tells) (
   read_single i (p ∷ q ∷ r) are one = absurd (omega (arith, one))
 
   -- where only partition i has what is printed
-  pub listed_one : {T : Type 0} (text : List Born → List ℕ) (i : ℕ) (a b : Option (List ℕ)) (result : Result T AnswerFault) (read : List (List Born)) → text [] ≡ [] → text (all_edges parts) ≡ text (slice_index_or parts i []) → IsPrinted s tells c i 1 text a b result read → Takes a b result (text (all_edges parts))
+  pub listed_one : {T : Type 0} (text : List Born → List ℕ) (i : ℕ) (a b : Option (List ℕ)) (result : Result T AnswerFault) (read : List (List Born)) → text [] ≡ [] → text (all_edges parts) ≡ text (slice_index_or parts i []) → ArePartsPrinted s tells c i 1 text a b result read → Takes a b result (text (all_edges parts))
   listed_one text i a b (Ok x) read none here p = subst (λ (l : List ℕ). Appends a b l) (ap text (read_single i read p.are_read p.all) ∙ sym here) p.taken
   listed_one text i a b (Err f) [] none here p = AppendsPrefix-more a b [] (text (all_edges parts)) (subst (λ (l : List ℕ). AppendsPrefix a b l) none p.taken)
   listed_one text i a b (Err f) (q ∷ []) none here p = subst (λ (l : List ℕ). AppendsPrefix a b l) (ap text (single i q p.are_read) ∙ sym here) p.taken
@@ -123,11 +123,11 @@ module _ (s : OpenStore) (o : IsOpenStore s) (tells : Bool) (t : IsTrue tells) (
   joins : (xs ys : List Born) → answers_text label None to (xs ++ ys) ≡ answers_text label None to xs ++ answers_text label None to ys
   joins xs ys = ap (λ (l : List Born). flat_map answer_line l) (filter-append (is_answer label None to) xs ys) ∙ flat_map-append answer_line (answers_in label None to xs) (answers_in label None to ys)
 
-  pub answers_listed : (from : Option ℕ) (a b : Option (List ℕ)) (result : Result ℕ AnswerFault) (read : List (List Born)) → IsPrinted s tells c (first_asked s from) (wanted s from) (answers_text label from to) a b result read → Takes a b result (answers_text label from to (all_edges parts))
+  pub answers_listed : (from : Option ℕ) (a b : Option (List ℕ)) (result : Result ℕ AnswerFault) (read : List (List Born)) → ArePartsPrinted s tells c (first_asked s from) (wanted s from) (answers_text label from to) a b result read → Takes a b result (answers_text label from to (all_edges parts))
   answers_listed None a b result read p = listed_all s o tells t c parts listed (answers_text label None to) a b result read joins p
   answers_listed (Some u) a b result read p = listed_one s o tells t c parts listed (answers_text label (Some u) to) (place (ends_of s.manifest) u) a b result read refl (ap (λ (l : List Born). flat_map answer_line l) (here u)) p
 
-  pub answers_counted : (from : Option ℕ) (a b : Option (List ℕ)) (result : Result ℕ AnswerFault) (read : List (List Born)) → IsPrinted s tells c (first_asked s from) (wanted s from) (answers_text label from to) a b result read → IfOk result (λ n. n ≡ length (answers_in label from to (all_edges read))) → IfOk result (λ n. n ≡ length (answers_in label from to (all_edges parts)))
+  pub answers_counted : (from : Option ℕ) (a b : Option (List ℕ)) (result : Result ℕ AnswerFault) (read : List (List Born)) → ArePartsPrinted s tells c (first_asked s from) (wanted s from) (answers_text label from to) a b result read → IfOk result (λ n. n ≡ length (answers_in label from to (all_edges read))) → IfOk result (λ n. n ≡ length (answers_in label from to (all_edges parts)))
   answers_counted from a b (Err f) read p is = tt
   answers_counted None a b (Ok n) read p is = is ∙ ap (λ (l : List (List Born)). length (answers_in label None to (all_edges l))) (read_all s o tells t c parts listed read p.are_read p.all)
   answers_counted (Some u) a b (Ok n) read p is =

@@ -4,7 +4,7 @@ use Rattle.std.specs.Prelude.{filter, slice_index_or, Option, Some}
 use Rattle.std.proofs.lemmas.Bool.Decides.{nat_tests}
 use Rattle.graph_words.specs.declared.types.Born.{Born}
 use Rattle.graph_words.specs.declared.types.LabelId.{LabelId}
-use Rattle.closing_machine.specs.State.{IsCut, part, place}
+use Rattle.closing_machine.specs.State.{EndsCut, part, place}
 use Rattle.closing_machine.specs.Parts.{ArePartitions, all_edges}
 use Rattle.closing_machine.proofs.Partitions.{all_where_one, filter_partitions}
 use Rattle.query_text.specs.Text.{answers_in, is_answer, is_asked}
@@ -30,7 +30,7 @@ filter_within : (p q : Born → Bool) (xs : List Born) → ((b : Born) → p b �
 filter_within p q [] up = refl
 filter_within p q (x ∷ xs) up = filter_one p q x xs (p x) (q x) refl refl (up x) (filter_within p q xs up)
 
-pub answers_from : (ends : List ℕ) (parts : List (List Born)) (top : ℕ) (label : LabelId) (u : ℕ) (to : Option ℕ) → IsCut 0 ends top → ArePartitions 0 ends parts → answers_in label (Some u) to (all_edges parts) ≡ answers_in label (Some u) to (slice_index_or parts (place ends u) [])
+pub answers_from : (ends : List ℕ) (parts : List (List Born)) (top : ℕ) (label : LabelId) (u : ℕ) (to : Option ℕ) → EndsCut 0 ends top → ArePartitions 0 ends parts → answers_in label (Some u) to (all_edges parts) ≡ answers_in label (Some u) to (slice_index_or parts (place ends u) [])
 answers_from ends parts top label u to cut are =
     let test = λ (k : ℕ). k == place ends u in
     let here = λ (b : Born) (e : is_answer label (Some u) to b ≡ true). let two = both (b.edge.label.0 == label.0) ((b.edge.src.0 == u) && is_asked to b.edge.dst.0) e in let from = both (b.edge.src.0 == u) (is_asked to b.edge.dst.0) two.1 in is_same (part ends b) (place ends u) (ap (place ends) (same_number b.edge.src.0 u from.0)) in

@@ -4,7 +4,7 @@ use Rattle.std.specs.Prelude.{Bool, slice_index_or}
 use Rattle.std.proofs.lemmas.List.Elements.{All-contains}
 use Rattle.graph_words.specs.declared.types.Born.{Born}
 use Rattle.normal_form.proofs.NormalLemmas.{fresh_few}
-use Rattle.closing_machine.specs.State.{IsCut}
+use Rattle.closing_machine.specs.State.{EndsCut}
 use Rattle.closing_machine.specs.Machine.{high, low}
 use Rattle.closing_machine.specs.Parts.{all_edges}
 use Rattle.closing_machine.specs.Capacity.{capacity}
@@ -22,7 +22,7 @@ all_edges-append [] ys = refl
 all_edges-append (x ∷ xs) ys = ap (λ (l : List Born). x ++ l) (all_edges-append xs ys) ∙ sym (append_assoc x (all_edges xs) (all_edges ys))
 
 -- no interval reaches past the last vertex
-pub ends_within : (from top : ℕ) (ends : List ℕ) (i : ℕ) → IsCut from ends top → from ≤ top × slice_index_or (from ∷ ends) i 0 ≤ top × slice_index_or ends i 0 ≤ top
+pub ends_within : (from top : ℕ) (ends : List ℕ) (i : ℕ) → EndsCut from ends top → from ≤ top × slice_index_or (from ∷ ends) i 0 ≤ top × slice_index_or ends i 0 ≤ top
 ends_within from top [] zero cut = (omega arith, omega arith, omega arith)
 ends_within from top [] (suc i) cut = (omega arith, omega arith, omega arith)
 ends_within from top (e ∷ es) zero cut = let later = ends_within e top es zero cut.1 in (omega (arith, cut.0, later.0), omega (arith, cut.0, later.0), later.0)

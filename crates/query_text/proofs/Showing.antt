@@ -18,7 +18,7 @@ use Rattle.manifest_codec.specs.declared.types.Manifest.{Manifest}
 use Rattle.store_law.specs.Listed.{part_file}
 use Rattle.open_store.specs.Store.{IsOpenStore, OpenStore}
 use Rattle.open_store.specs.PartRead.{IsRead, IsRefused}
-use Rattle.query_text.specs.Answered.{AreRead, IsBlamed, IsPrinted, print_causes, why_not_printed}
+use Rattle.query_text.specs.Answered.{AreRead, IsBlamed, ArePartsPrinted, print_causes, why_not_printed}
 use Rattle.text_page.specs.Gathered.{Gathers, HasGathered}
 use Rattle.query_text.specs.Shown.{IsGathered, is_shown, line_of, shown_in, shown_text}
 use Rattle.query_text.specs.declared.fault.AnswerFault.{AnswerFault}
@@ -242,7 +242,7 @@ cause_handed_on w0 w1 w2 d0 d1 d2 bad worse U f r is w d up h = rw is (cause_lat
 
 module _ (s : OpenStore) (tells : Bool) (c : Contents) (T : Type 0) (text : List Born → List ℕ) where
   -- nothing was read or printed
-  pub printed_none : (first wanted : ℕ) (f : AnswerFault) (a : Option (List ℕ)) (r : Result T AnswerFault) (P : T → Type 0) → r ≡ Err f → first ≤ length s.manifest.parts → IsPrinted s tells c first wanted text a a r [] × IfOk r P
+  pub printed_none : (first wanted : ℕ) (f : AnswerFault) (a : Option (List ℕ)) (r : Result T AnswerFault) (P : T → Type 0) → r ≡ Err f → first ≤ length s.manifest.parts → ArePartsPrinted s tells c first wanted text a a r [] × IfOk r P
   printed_none first wanted f a r P is within =
       rw is (
         record {
@@ -255,7 +255,7 @@ module _ (s : OpenStore) (tells : Bool) (c : Contents) (T : Type 0) (text : List
       )
 
   -- the last page was not taken
-  pub printed_short : (first wanted : ℕ) (f : AnswerFault) (a b d : Option (List ℕ)) (page held : List ℕ) (read : List (List Born)) (r : Result T AnswerFault) (P : T → Type 0) → r ≡ Err f → page ≡ [] → AreRead s tells c first read → length read ≤ wanted → HasGathered a page b held (text (all_edges read)) → AppendsPrefix b d held → IsPrinted s tells c first wanted text a d r read × IfOk r P
+  pub printed_short : (first wanted : ℕ) (f : AnswerFault) (a b d : Option (List ℕ)) (page held : List ℕ) (read : List (List Born)) (r : Result T AnswerFault) (P : T → Type 0) → r ≡ Err f → page ≡ [] → AreRead s tells c first read → length read ≤ wanted → HasGathered a page b held (text (all_edges read)) → AppendsPrefix b d held → ArePartsPrinted s tells c first wanted text a d r read × IfOk r P
   printed_short first wanted f a b d page held read r P is blank are few gathered short =
       rw is (
         record {

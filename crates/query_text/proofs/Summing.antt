@@ -10,7 +10,7 @@ use Rattle.dest_map.specs.Table.{counts_of}
 use Rattle.manifest_codec.specs.declared.types.PartEntry.{PartEntry}
 use Rattle.manifest_codec.specs.declared.types.Manifest.{Manifest}
 use Rattle.manifest_codec.specs.Rules.{widths}
-use Rattle.manifest_codec.specs.Spelling.{Cover, Fits, width}
+use Rattle.manifest_codec.specs.Spelling.{Cover, FitsManifest, width}
 use Rattle.store_law.specs.Listed.{ends_of}
 use Rattle.store_law.proofs.Intervals.{cut_from_cover}
 use Rattle.query_text.specs.Text.{edges_in, part_line, part_lines, sum_below}
@@ -22,7 +22,7 @@ width_from top from [] k cover below = absurd (omega (arith, below))
 width_from top from (p ∷ ps) zero cover below = let l : from < p.hi = cover.0 in omega arith
 width_from top from (p ∷ ps) (suc k) cover below = width_from top p.hi ps k cover.1 (omega (arith, below))
 
-module _ (m : Manifest) (f : Fits m) where
+module _ (m : Manifest) (f : FitsManifest m) where
   abbrev to : ℕ → ℕ
   to j = slice_index_or (0 ∷ ends_of m) j 0
 

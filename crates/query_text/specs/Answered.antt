@@ -34,7 +34,7 @@ pub record AreRead (s : OpenStore) (tells : Bool) (c : Contents) (first : ℕ) (
   pub each : (i : ℕ) → i < length read → IsRead s (first + i) tells (c (part_file s.manifest (first + i))) (slice_index_or read i [])
 
 -- these partitions were read, and at Ok all that are wanted. The sink took the text of their edges, or a prefix of it where the call failed.
-pub record IsPrinted {T : Type 0} (s : OpenStore) (tells : Bool) (c : Contents) (first wanted : ℕ)
+pub record ArePartsPrinted {T : Type 0} (s : OpenStore) (tells : Bool) (c : Contents) (first wanted : ℕ)
     (text : List Born → List ℕ) (before after : Option (List ℕ)) (result : Result T AnswerFault)
     (read : List (List Born)) : Type 0 where
   pub are_read : AreRead s tells c first read

@@ -8,7 +8,7 @@ ghost use Rattle.io_edge.specs.Devices.{Takes};
 ghost use Rattle.closing_machine.specs.Parts.{all_edges};
 ghost use Rattle.open_store.specs.Store.{IsOpenStore};
 ghost use Rattle.query_text.specs.Text.{answers_in, answers_text, dump_text};
-ghost use Rattle.query_text.specs.Answered.{AreListedIn, IsBlamed, IsPrinted, first_asked, print_causes, wanted, why_not_printed};
+ghost use Rattle.query_text.specs.Answered.{AreListedIn, IsBlamed, ArePartsPrinted, first_asked, print_causes, wanted, why_not_printed};
 
 use crate::fault::AnswerFault;
 use crate::show::Show;
@@ -60,7 +60,7 @@ pub fn answers<D: Disk, O: Sink>(
 
     // On any disk: the lines are those of partitions that were read, and their number is told.
     ensures printed { (read : List (List ABorn))
-        × IsPrinted store.now D.tells (D.seen disk.old) (first_asked store.now from) (wanted store.now from)
+        × ArePartsPrinted store.now D.tells (D.seen disk.old) (first_asked store.now from) (wanted store.now from)
         (answers_text label from to) (O.told sink.old) (O.told sink.new) result read
         × IfOk result (λ n. n ≡ length (answers_in label from to (all_edges read))) }
 
@@ -98,7 +98,7 @@ pub fn dump<D: Disk, O: Sink>(
 ) -> Result<(), AnswerFault>
     // On any disk: the lines are those of partitions that were read.
     ensures printed { (read : List (List ABorn))
-        × IsPrinted store.now D.tells (D.seen disk.old) 0 (length store.now.manifest.parts)
+        × ArePartsPrinted store.now D.tells (D.seen disk.old) 0 (length store.now.manifest.parts)
         (dump_text store.now.manifest.labels) (O.told sink.old) (O.told sink.new) result read }
 
     // Where the disk tells its contents, they are those of all partitions that it lists, or a prefix.

@@ -4,7 +4,7 @@ ghost use Rattle.faults.specs.Counts.{HasCause};
 ghost use Rattle.io_edge.specs.Devices.{Takes};
 ghost use Rattle.text_page.specs.Gathered.{Gathers};
 ghost use Rattle.dest_map.specs.Table.{counts_of};
-ghost use Rattle.manifest_codec.specs.Spelling.{Fits};
+ghost use Rattle.manifest_codec.specs.Spelling.{FitsManifest};
 ghost use Rattle.query_text.specs.Text.{IsStateLine, edges_in, head_text, part_lines};
 ghost use Rattle.io_edge.specs.View.{WriteRose};
 ghost use Rattle.query_text.specs.declared.fault.AnswerFault.TheVariants.{WriteFault};
@@ -19,7 +19,7 @@ use text_page::Page;
 
 // How many edges partition `i` has.
 fn edges_of(m: &Manifest, i: usize) -> u64
-    requires fits { Fits m.now }
+    requires fits { FitsManifest m.now }
     requires i { i < length m.now.parts }
     ensures { result ≡ edges_in m.now i }
 {
@@ -32,7 +32,7 @@ fn edges_of(m: &Manifest, i: usize) -> u64
 
 // Puts the line of each partition.
 fn put_parts<O: Sink>(m: &Manifest, page: &mut Page, sink: &mut O) -> Result<(), Failed>
-    requires { Fits m.now }
+    requires { FitsManifest m.now }
     ensures gathered { Gathers (O.told sink.old) page.old (O.told sink.new) page.new result (part_lines m.now 0 0 m.now.parts) }
     ensures cause { HasCause (O.faults sink.old) (O.faults sink.new) result }
 {
@@ -46,7 +46,7 @@ fn put_parts<O: Sink>(m: &Manifest, page: &mut Page, sink: &mut O) -> Result<(),
 
 // Puts the lines of the vertices and of each partition.
 fn put_head<O: Sink>(m: &Manifest, page: &mut Page, sink: &mut O) -> Result<(), Failed>
-    requires { Fits m.now }
+    requires { FitsManifest m.now }
     ensures gathered { Gathers (O.told sink.old) page.old (O.told sink.new) page.new result (head_text m.now) }
     ensures cause { HasCause (O.faults sink.old) (O.faults sink.new) result }
 {
@@ -56,7 +56,7 @@ fn put_head<O: Sink>(m: &Manifest, page: &mut Page, sink: &mut O) -> Result<(), 
 
 // Prints the head.
 fn print_head<O: Sink>(m: &Manifest, sink: &mut O) -> Result<(), Failed>
-    requires { Fits m.now }
+    requires { FitsManifest m.now }
     ensures taken { Takes (O.told sink.old) (O.told sink.new) result (head_text m.now) }
     ensures cause { HasCause (O.faults sink.old) (O.faults sink.new) result }
 {
@@ -67,7 +67,7 @@ fn print_head<O: Sink>(m: &Manifest, sink: &mut O) -> Result<(), Failed>
 
 // The line of the state.
 fn state_line(m: &Manifest) -> Line
-    requires { Fits m.now }
+    requires { FitsManifest m.now }
     ensures { IsStateLine m.now result.items }
 {
     match least_dirty(&m.map, &m.marks) {
@@ -78,7 +78,7 @@ fn state_line(m: &Manifest) -> Line
 
 // Prints the head and the line of the state.
 fn print_all<O: Sink>(m: &Manifest, sink: &mut O) -> Result<(), Failed>
-    requires { Fits m.now }
+    requires { FitsManifest m.now }
     ensures taken { (state : List ℕ) × IsStateLine m.now state × Takes (O.told sink.old) (O.told sink.new) result (head_text m.now ++ state) }
     ensures cause { HasCause (O.faults sink.old) (O.faults sink.new) result }
 {

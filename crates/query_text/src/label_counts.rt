@@ -11,7 +11,7 @@ ghost use Rattle.label_table.specs.Names.{IsTable};
 ghost use Rattle.open_store.specs.Store.{IsOpenStore};
 ghost use Rattle.text_page.specs.Gathered.{Gathers};
 ghost use Rattle.query_text.specs.Text.{tally_text};
-ghost use Rattle.query_text.specs.Answered.{AreListedIn, AreRead, IsBlamed, IsPrinted, print_causes, why_not_printed};
+ghost use Rattle.query_text.specs.Answered.{AreListedIn, AreRead, IsBlamed, ArePartsPrinted, print_causes, why_not_printed};
 ghost use Rattle.query_text.specs.Shown.{AreTallied};
 
 use crate::fault::AnswerFault;
@@ -138,7 +138,7 @@ pub fn tally<D: Disk, O: Sink>(
 ) -> Result<(), AnswerFault>
     // On any disk: the counts are those of partitions that were read.
     ensures printed { (read : List (List ABorn))
-        × IsPrinted store.now D.tells (D.seen disk.old) 0 (length store.now.manifest.parts)
+        × ArePartsPrinted store.now D.tells (D.seen disk.old) 0 (length store.now.manifest.parts)
         (tally_text store.now.manifest.labels) (O.told sink.old) (O.told sink.new) result read }
 
     // Where the disk tells its contents, they are those of all partitions that it lists.

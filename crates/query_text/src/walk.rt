@@ -6,7 +6,7 @@ ghost use Rattle.disk_model.specs.View.{DiskRose, OnlyLooks};
 ghost use Rattle.graph_words.specs.declared.types.Born.{Born as ABorn};
 ghost use Rattle.closing_machine.specs.Parts.{all_edges};
 ghost use Rattle.open_store.specs.Store.{IsOpenStore};
-ghost use Rattle.query_text.specs.Answered.{IsBlamed, IsPrinted, print_causes, why_not_printed};
+ghost use Rattle.query_text.specs.Answered.{IsBlamed, ArePartsPrinted, print_causes, why_not_printed};
 ghost use Rattle.query_text.specs.Shown.{IsGathered, shown_in, shown_text};
 
 use crate::fault::AnswerFault;
@@ -92,7 +92,7 @@ impl Walk<'_> {
         requires order { self.now.first ≤ self.now.end }
         requires there { self.now.end ≤ length self.now.store.now.manifest.parts }
         ensures printed { (read : List (List ABorn))
-            × IsPrinted self.now.store.now D.tells (D.seen disk.old) self.now.first (self.now.end - self.now.first)
+            × ArePartsPrinted self.now.store.now D.tells (D.seen disk.old) self.now.first (self.now.end - self.now.first)
             (shown_text self.now.show self.now.store.now.manifest.labels) (O.told sink.old) (O.told sink.new) result read
             × IfOk result (λ n. n ≡ length (shown_in self.now.show self.now.store.now.manifest.labels (all_edges read))) }
         ensures looks { OnlyLooks D.Disk disk.old disk.new }

@@ -20,7 +20,7 @@ use Rattle.row_table.proofs.RowLemmas.{some_born}
 use Rattle.row_table.proofs.OrderLemmas.{front_grows, place_in_part, part_at}
 use Rattle.row_table.proofs.SearchLemmas.{in_its_row, from_row, row_ordered}
 use Rattle.row_table.specs.declared.blocks.Block.{Block}
-use Rattle.row_table.specs.Joined.{Gives, JoinsTo, AddsJoins, AddsSecond, AddsFirst, AddsRows, AreSeconds, PartsLabels, Counts, GivesJoins, HasLabels, IsJoinOf, LabelsAscend}
+use Rattle.row_table.specs.Joined.{BlocksHave, JoinsTo, AddsJoins, AddsSecond, AddsFirst, AddsRows, AreSeconds, PartsLabels, CountsBirth, GivesJoins, HasLabels, IsJoinOf, LabelsAscend}
 use Rattle.row_table.specs.Sieve.{HasNumber, AddsNumber}
 
 -- some edge of the list ends at w
@@ -29,20 +29,20 @@ EndsAt run w = (c : Born) × Contains run c × (c.edge.dst ≡ w)
 
 -- blocks were added, one for each label, with the same edges
 abbrev pub GivesLabels : List Block → List Block → List LabelId → List Born → Type 0
-GivesLabels before after labels run = (a : LabelId) (w : Vertex) → Gives after a w ↔ (Gives before a w ⊎ (Contains labels a × EndsAt run w))
+GivesLabels before after labels run = (a : LabelId) (w : Vertex) → BlocksHave after a w ↔ (BlocksHave before a w ⊎ (Contains labels a × EndsAt run w))
 
 module _ (blocks : List Block) (k : Block) (a : LabelId) (w : Vertex) where
-  pub gives_push_to : Gives (blocks ++ k ∷ []) a w → Gives blocks a w ⊎ ((k.label ≡ a) × EndsAt k.seconds.now w)
+  pub gives_push_to : BlocksHave (blocks ++ k ∷ []) a w → BlocksHave blocks a w ⊎ ((k.label ≡ a) × EndsAt k.seconds.now w)
   gives_push_to g =
       either
       (λ (m : Contains blocks g.0). inl (g.0, m, g.2, g.3))
       (λ (e : k ≡ g.0). inr (subst (λ (b : Block). (b.label ≡ a) × EndsAt b.seconds.now w) (sym e) (g.2, g.3)))
       (Contains-push_cases blocks k g.0 g.1)
 
-  pub gives_push_back : Gives blocks a w ⊎ ((k.label ≡ a) × EndsAt k.seconds.now w) → Gives (blocks ++ k ∷ []) a w
+  pub gives_push_back : BlocksHave blocks a w ⊎ ((k.label ≡ a) × EndsAt k.seconds.now w) → BlocksHave (blocks ++ k ∷ []) a w
   gives_push_back h =
       either
-      (λ (g : Gives blocks a w). (g.0, Contains-append_left blocks (k ∷ []) g.0 g.1, g.2, g.3))
+      (λ (g : BlocksHave blocks a w). (g.0, Contains-append_left blocks (k ∷ []) g.0 g.1, g.2, g.3))
       (λ (p : (k.label ≡ a) × EndsAt k.seconds.now w). (k, Contains-push blocks k, p.0, p.1))
       h
 
@@ -52,19 +52,19 @@ pub labels_none : (blocks : List Block) (run : List Born) → GivesLabels blocks
 labels_none blocks run a w = (λ g. inl g, λ h. either (λ g. g) (λ (p : Contains [] a × EndsAt run w). absurd (let l : p.0.0 < 0 = p.0.1 in omega arith)) h)
 
 module _ (before now : List Block) (labels : List LabelId) (i : ℕ) (d : LabelId) (k : Block) (lt : i < length labels) (is : k.label ≡ get_or labels i d) where
-  labels_to : (run : List Born) → k.seconds.now ≡ run → GivesLabels before now (take i labels) run → (a : LabelId) (w : Vertex) → Gives (now ++ k ∷ []) a w → Gives before a w ⊎ (Contains (take (i + 1) labels) a × EndsAt run w)
+  labels_to : (run : List Born) → k.seconds.now ≡ run → GivesLabels before now (take i labels) run → (a : LabelId) (w : Vertex) → BlocksHave (now ++ k ∷ []) a w → BlocksHave before a w ⊎ (Contains (take (i + 1) labels) a × EndsAt run w)
   labels_to run e h a w g =
       rw (take_more labels i d lt) (
       either
-      (λ (g : Gives now a w). either (λ (o : Gives before a w). inl o) (λ (p : Contains (take i labels) a × EndsAt run w). inr (Contains-append_left (take i labels) (get_or labels i d ∷ []) a p.0, p.1)) ((h a w).0 g))
+      (λ (g : BlocksHave now a w). either (λ (o : BlocksHave before a w). inl o) (λ (p : Contains (take i labels) a × EndsAt run w). inr (Contains-append_left (take i labels) (get_or labels i d ∷ []) a p.0, p.1)) ((h a w).0 g))
       (λ (p : (k.label ≡ a) × EndsAt k.seconds.now w). inr (subst (λ (x : LabelId). Contains (take i labels ++ get_or labels i d ∷ []) x) (sym is ∙ p.0) (Contains-push (take i labels) (get_or labels i d)), subst (λ (r : List Born). EndsAt r w) e p.1))
       (gives_push_to now k a w g))
 
-  labels_back : (run : List Born) → k.seconds.now ≡ run → GivesLabels before now (take i labels) run → (a : LabelId) (w : Vertex) → Gives before a w ⊎ (Contains (take (i + 1) labels) a × EndsAt run w) → Gives (now ++ k ∷ []) a w
+  labels_back : (run : List Born) → k.seconds.now ≡ run → GivesLabels before now (take i labels) run → (a : LabelId) (w : Vertex) → BlocksHave before a w ⊎ (Contains (take (i + 1) labels) a × EndsAt run w) → BlocksHave (now ++ k ∷ []) a w
   labels_back run e h a w g =
       gives_push_back now k a w (
       either
-      (λ (o : Gives before a w). inl ((h a w).1 (inl o)))
+      (λ (o : BlocksHave before a w). inl ((h a w).1 (inl o)))
       (λ (p : Contains (take (i + 1) labels) a × EndsAt run w).
       either
       (λ (m : Contains (take i labels) a). inl ((h a w).1 (inr (m, p.1))))
@@ -81,8 +81,8 @@ module _ (n : Normal) (first label : LabelId) (before after : List Block) (label
 
   pub labels_all : (i : ℕ) → length labels ≤ i → GivesLabels before after (take i labels) run → AddsJoins n first run before after
   labels_all i le h a w = (
-    λ g. either (λ (o : Gives before a w). inl o) (λ (p : Contains (take i labels) a × EndsAt run w). inr (p.1.0, p.1.1, subst (λ (l : LabelId). Joins n first l a) (sym (label_of p.1.0 p.1.1)) ((each a).0 (rw (take_all i labels le) at p.0)), p.1.2)) ((h a w).0 g),
-    λ o. either (λ (g : Gives before a w). (h a w).1 (inl g)) (λ (j : JoinsTo n first run a w). (h a w).1 (inr (rw (take_all i labels le) ((each a).1 (subst (λ (l : LabelId). Joins n first l a) (label_of j.0 j.1) j.2)), (j.0, j.1, j.3)))) o,
+    λ g. either (λ (o : BlocksHave before a w). inl o) (λ (p : Contains (take i labels) a × EndsAt run w). inr (p.1.0, p.1.1, subst (λ (l : LabelId). Joins n first l a) (sym (label_of p.1.0 p.1.1)) ((each a).0 (rw (take_all i labels le) at p.0)), p.1.2)) ((h a w).0 g),
+    λ o. either (λ (g : BlocksHave before a w). (h a w).1 (inl g)) (λ (j : JoinsTo n first run a w). (h a w).1 (inr (rw (take_all i labels le) ((each a).1 (subst (λ (l : LabelId). Joins n first l a) (label_of j.0 j.1) j.2)), (j.0, j.1, j.3)))) o,
   )
 
 -- ---- runs of a row
@@ -93,11 +93,11 @@ joins_none n first blocks a w = (λ g. inl g, λ h. either (λ g. g) (λ (p : Jo
 pub joins_both : (n : Normal) (first : LabelId) (xs ys : List Born) (before now after : List Block) → AddsJoins n first xs before now → AddsJoins n first ys now after → AddsJoins n first (xs ++ ys) before after
 joins_both n first xs ys before now after f h a w = (
   λ g. either
-      (λ (g : Gives now a w). either (λ (o : Gives before a w). inl o) (λ (p : JoinsTo n first xs a w). inr (p.0, Contains-append_left xs ys p.0 p.1, p.2, p.3)) ((f a w).0 g))
+      (λ (g : BlocksHave now a w). either (λ (o : BlocksHave before a w). inl o) (λ (p : JoinsTo n first xs a w). inr (p.0, Contains-append_left xs ys p.0 p.1, p.2, p.3)) ((f a w).0 g))
       (λ (p : JoinsTo n first ys a w). inr (p.0, Contains-append_right xs ys p.0 p.1, p.2, p.3))
       ((h a w).0 g),
   λ o. either
-      (λ (g : Gives before a w). (h a w).1 (inl ((f a w).1 (inl g))))
+      (λ (g : BlocksHave before a w). (h a w).1 (inl ((f a w).1 (inl g))))
       (λ (p : JoinsTo n first (xs ++ ys) a w).
       either
       (λ (m : Contains xs p.0). (h a w).1 (inl ((f a w).1 (inr (p.0, m, p.2, p.3)))))
@@ -188,31 +188,31 @@ no_run row label p up parts other b = (λ m. absurd (let l : m.0 < 0 = m.1 in om
 pub second_none : (n : Normal) (first : LabelId) (row : List Born) (label : LabelId) (blocks : List Block) (run : List Born) → ((b : Born) → Contains run b ↔ (Contains row b × (b.edge.label ≡ label))) → run ≡ [] → AddsSecond n first row label blocks blocks
 second_none n first row label blocks run has nil a w = (
   λ g. inl g,
-  λ o. either (λ (g : Gives blocks a w). g) (λ (p : (c : Born) × Contains row c × (c.edge.label ≡ label) × Joins n first c.edge.label a × (c.edge.dst ≡ w)). absurd (let m : Contains [] p.0 = subst (λ (l : List Born). Contains l p.0) nil ((has p.0).1 (p.1, p.2)) in let l : m.0 < 0 = m.1 in omega arith)) o,
+  λ o. either (λ (g : BlocksHave blocks a w). g) (λ (p : (c : Born) × Contains row c × (c.edge.label ≡ label) × Joins n first c.edge.label a × (c.edge.dst ≡ w)). absurd (let m : Contains [] p.0 = subst (λ (l : List Born). Contains l p.0) nil ((has p.0).1 (p.1, p.2)) in let l : m.0 < 0 = m.1 in omega arith)) o,
 )
 
 pub second_run : (n : Normal) (first : LabelId) (row : List Born) (label : LabelId) (before after : List Block) (run : List Born) → ((b : Born) → Contains run b ↔ (Contains row b × (b.edge.label ≡ label))) → AddsJoins n first run before after → AddsSecond n first row label before after
 second_run n first row label before after run has h a w = (
-  λ g. either (λ (o : Gives before a w). inl o) (λ (j : JoinsTo n first run a w). inr (let r = (has j.0).0 j.1 in (j.0, r.0, r.1, j.2, j.3))) ((h a w).0 g),
-  λ o. either (λ (g : Gives before a w). (h a w).1 (inl g)) (λ (p : (c : Born) × Contains row c × (c.edge.label ≡ label) × Joins n first c.edge.label a × (c.edge.dst ≡ w)). (h a w).1 (inr (p.0, (has p.0).1 (p.1, p.2), p.3, p.4))) o,
+  λ g. either (λ (o : BlocksHave before a w). inl o) (λ (j : JoinsTo n first run a w). inr (let r = (has j.0).0 j.1 in (j.0, r.0, r.1, j.2, j.3))) ((h a w).0 g),
+  λ o. either (λ (g : BlocksHave before a w). (h a w).1 (inl g)) (λ (p : (c : Born) × Contains row c × (c.edge.label ≡ label) × Joins n first c.edge.label a × (c.edge.dst ≡ w)). (h a w).1 (inr (p.0, (has p.0).1 (p.1, p.2), p.3, p.4))) o,
 )
 
 -- what a first label joins to with those edges of a row that have some of these labels
 abbrev pub AddsSome : Normal → LabelId → List Born → List LabelId → List Block → List Block → Type 0
 AddsSome n first row labels before after = (a : LabelId) (w : Vertex)
-    → Gives after a w ↔ (Gives before a w ⊎ ((c : Born) × Contains row c × Contains labels c.edge.label × Joins n first c.edge.label a × (c.edge.dst ≡ w)))
+    → BlocksHave after a w ↔ (BlocksHave before a w ⊎ ((c : Born) × Contains row c × Contains labels c.edge.label × Joins n first c.edge.label a × (c.edge.dst ≡ w)))
 
 pub some_none : (n : Normal) (first : LabelId) (row : List Born) (blocks : List Block) → AddsSome n first row [] blocks blocks
-some_none n first row blocks a w = (λ g. inl g, λ o. either (λ (g : Gives blocks a w). g) (λ (p : (c : Born) × Contains row c × Contains [] c.edge.label × Joins n first c.edge.label a × (c.edge.dst ≡ w)). absurd (let m : Contains [] p.0.edge.label = p.2 in let l : m.0 < 0 = m.1 in omega arith)) o)
+some_none n first row blocks a w = (λ g. inl g, λ o. either (λ (g : BlocksHave blocks a w). g) (λ (p : (c : Born) × Contains row c × Contains [] c.edge.label × Joins n first c.edge.label a × (c.edge.dst ≡ w)). absurd (let m : Contains [] p.0.edge.label = p.2 in let l : m.0 < 0 = m.1 in omega arith)) o)
 
 pub some_more : (n : Normal) (first : LabelId) (row : List Born) (labels : List LabelId) (i : ℕ) (d : LabelId) (before now after : List Block) → i < length labels → AddsSome n first row (take i labels) before now → AddsSecond n first row (get_or labels i d) now after → AddsSome n first row (take (i + 1) labels) before after
 some_more n first row labels i d before now after lt f h a w = (
   λ g. either
-      (λ (g : Gives now a w). either (λ (o : Gives before a w). inl o) (λ (p : (c : Born) × Contains row c × Contains (take i labels) c.edge.label × Joins n first c.edge.label a × (c.edge.dst ≡ w)). inr (p.0, p.1, rw (take_more labels i d lt) (Contains-append_left (take i labels) (get_or labels i d ∷ []) p.0.edge.label p.2), p.3, p.4)) ((f a w).0 g))
+      (λ (g : BlocksHave now a w). either (λ (o : BlocksHave before a w). inl o) (λ (p : (c : Born) × Contains row c × Contains (take i labels) c.edge.label × Joins n first c.edge.label a × (c.edge.dst ≡ w)). inr (p.0, p.1, rw (take_more labels i d lt) (Contains-append_left (take i labels) (get_or labels i d ∷ []) p.0.edge.label p.2), p.3, p.4)) ((f a w).0 g))
       (λ (p : (c : Born) × Contains row c × (c.edge.label ≡ get_or labels i d) × Joins n first c.edge.label a × (c.edge.dst ≡ w)). inr (p.0, p.1, rw (take_more labels i d lt) (subst (λ (l : LabelId). Contains (take i labels ++ get_or labels i d ∷ []) l) (sym p.2) (Contains-push (take i labels) (get_or labels i d))), p.3, p.4))
       ((h a w).0 g),
   λ o. either
-      (λ (g : Gives before a w). (h a w).1 (inl ((f a w).1 (inl g))))
+      (λ (g : BlocksHave before a w). (h a w).1 (inl ((f a w).1 (inl g))))
       (λ (p : (c : Born) × Contains row c × Contains (take (i + 1) labels) c.edge.label × Joins n first c.edge.label a × (c.edge.dst ≡ w)).
       either
       (λ (m : Contains (take i labels) p.0.edge.label). (h a w).1 (inl ((f a w).1 (inr (p.0, p.1, m, p.3, p.4)))))
@@ -223,8 +223,8 @@ some_more n first row labels i d before now after lt f h a w = (
 
 pub some_all : (n : Normal) (first : LabelId) (row : List Born) (labels : List LabelId) (i : ℕ) (before after : List Block) → AreSeconds n first row labels → length labels ≤ i → AddsSome n first row (take i labels) before after → AddsJoins n first row before after
 some_all n first row labels i before after are le f a w = (
-  λ g. either (λ (o : Gives before a w). inl o) (λ (p : (c : Born) × Contains row c × Contains (take i labels) c.edge.label × Joins n first c.edge.label a × (c.edge.dst ≡ w)). inr (p.0, p.1, p.3, p.4)) ((f a w).0 g),
-  λ o. either (λ (g : Gives before a w). (f a w).1 (inl g)) (λ (p : JoinsTo n first row a w). (f a w).1 (inr (p.0, p.1, rw (take_all i labels le) (are p.0 a p.1 p.2), p.2, p.3))) o,
+  λ g. either (λ (o : BlocksHave before a w). inl o) (λ (p : (c : Born) × Contains row c × Contains (take i labels) c.edge.label × Joins n first c.edge.label a × (c.edge.dst ≡ w)). inr (p.0, p.1, p.3, p.4)) ((f a w).0 g),
+  λ o. either (λ (g : BlocksHave before a w). (f a w).1 (inl g)) (λ (p : JoinsTo n first row a w). (f a w).1 (inr (p.0, p.1, rw (take_all i labels le) (are p.0 a p.1 p.2), p.2, p.3))) o,
 )
 
 pub row_labels : (v : ℕ) (row : List Born) → IsOrdered row → All (λ b. b.edge.src.0 ≡ v) row → LabelsAscend row
@@ -262,24 +262,24 @@ same_between row label start middle f up first le lt at k d from to = same (get_
 -- ---- first edges
 
 pub firsts_none : (n : Normal) (every : Bool) (since : ℕ) (edges : List Born) (blocks : List Block) → AddsRows n every since [] edges blocks blocks
-firsts_none n every since edges blocks a w = (λ g. inl g, λ h. either (λ g. g) (λ (p : (b : Born) × Contains [] b × Counts every since b × JoinsTo n b.edge.label (row_of b.edge.dst.0 edges) a w). absurd (let l : p.1.0 < 0 = p.1.1 in omega arith)) h)
+firsts_none n every since edges blocks a w = (λ g. inl g, λ h. either (λ g. g) (λ (p : (b : Born) × Contains [] b × CountsBirth every since b × JoinsTo n b.edge.label (row_of b.edge.dst.0 edges) a w). absurd (let l : p.1.0 < 0 = p.1.1 in omega arith)) h)
 
 module _ (n : Normal) (every : Bool) (since : ℕ) (firsts edges : List Born) (i : ℕ) (d : Born) (before now after : List Block) (lt : i < length firsts) where
   abbrev Joined : List Born → LabelId → Vertex → Type 0
-  Joined list a w = (b : Born) × Contains list b × Counts every since b × JoinsTo n b.edge.label (row_of b.edge.dst.0 edges) a w
+  Joined list a w = (b : Born) × Contains list b × CountsBirth every since b × JoinsTo n b.edge.label (row_of b.edge.dst.0 edges) a w
 
   pub firsts_more : AddsRows n every since (take i firsts) edges before now → AddsFirst n every since (get_or firsts i d) edges now after → AddsRows n every since (take (i + 1) firsts) edges before after
   firsts_more f h a w = (
     λ g. either
-        (λ (g : Gives now a w). either (λ (o : Gives before a w). inl o) (λ (p : Joined (take i firsts) a w). inr (p.0, rw (take_more firsts i d lt) (Contains-append_left (take i firsts) (get_or firsts i d ∷ []) p.0 p.1), p.2, p.3)) ((f a w).0 g))
-        (λ (p : Counts every since (get_or firsts i d) × JoinsTo n (get_or firsts i d).edge.label (row_of (get_or firsts i d).edge.dst.0 edges) a w). inr (get_or firsts i d, rw (take_more firsts i d lt) (Contains-push (take i firsts) (get_or firsts i d)), p.0, p.1))
+        (λ (g : BlocksHave now a w). either (λ (o : BlocksHave before a w). inl o) (λ (p : Joined (take i firsts) a w). inr (p.0, rw (take_more firsts i d lt) (Contains-append_left (take i firsts) (get_or firsts i d ∷ []) p.0 p.1), p.2, p.3)) ((f a w).0 g))
+        (λ (p : CountsBirth every since (get_or firsts i d) × JoinsTo n (get_or firsts i d).edge.label (row_of (get_or firsts i d).edge.dst.0 edges) a w). inr (get_or firsts i d, rw (take_more firsts i d lt) (Contains-push (take i firsts) (get_or firsts i d)), p.0, p.1))
         ((h a w).0 g),
     λ o. either
-        (λ (g : Gives before a w). (h a w).1 (inl ((f a w).1 (inl g))))
+        (λ (g : BlocksHave before a w). (h a w).1 (inl ((f a w).1 (inl g))))
         (λ (p : Joined (take (i + 1) firsts) a w).
         either
         (λ (m : Contains (take i firsts) p.0). (h a w).1 (inl ((f a w).1 (inr (p.0, m, p.2, p.3)))))
-        (λ (s : get_or firsts i d ≡ p.0). (h a w).1 (inr (subst (λ (b : Born). Counts every since b × JoinsTo n b.edge.label (row_of b.edge.dst.0 edges) a w) (sym s) (p.2, p.3))))
+        (λ (s : get_or firsts i d ≡ p.0). (h a w).1 (inr (subst (λ (b : Born). CountsBirth every since b × JoinsTo n b.edge.label (row_of b.edge.dst.0 edges) a w) (sym s) (p.2, p.3))))
         (Contains-push_cases (take i firsts) (get_or firsts i d) p.0 (rw (take_more firsts i d lt) at p.1)))
         o,
   )
@@ -287,12 +287,12 @@ module _ (n : Normal) (every : Bool) (since : ℕ) (firsts edges : List Born) (i
 pub firsts_both : (n : Normal) (every : Bool) (since : ℕ) (xs ys edges : List Born) (before now after : List Block) → AddsRows n every since xs edges before now → AddsRows n every since ys edges now after → AddsRows n every since (xs ++ ys) edges before after
 firsts_both n every since xs ys edges before now after f h a w = (
   λ g. either
-      (λ (g : Gives now a w). either (λ (o : Gives before a w). inl o) (λ (p : (b : Born) × Contains xs b × Counts every since b × JoinsTo n b.edge.label (row_of b.edge.dst.0 edges) a w). inr (p.0, Contains-append_left xs ys p.0 p.1, p.2, p.3)) ((f a w).0 g))
-      (λ (p : (b : Born) × Contains ys b × Counts every since b × JoinsTo n b.edge.label (row_of b.edge.dst.0 edges) a w). inr (p.0, Contains-append_right xs ys p.0 p.1, p.2, p.3))
+      (λ (g : BlocksHave now a w). either (λ (o : BlocksHave before a w). inl o) (λ (p : (b : Born) × Contains xs b × CountsBirth every since b × JoinsTo n b.edge.label (row_of b.edge.dst.0 edges) a w). inr (p.0, Contains-append_left xs ys p.0 p.1, p.2, p.3)) ((f a w).0 g))
+      (λ (p : (b : Born) × Contains ys b × CountsBirth every since b × JoinsTo n b.edge.label (row_of b.edge.dst.0 edges) a w). inr (p.0, Contains-append_right xs ys p.0 p.1, p.2, p.3))
       ((h a w).0 g),
   λ o. either
-      (λ (g : Gives before a w). (h a w).1 (inl ((f a w).1 (inl g))))
-      (λ (p : (b : Born) × Contains (xs ++ ys) b × Counts every since b × JoinsTo n b.edge.label (row_of b.edge.dst.0 edges) a w).
+      (λ (g : BlocksHave before a w). (h a w).1 (inl ((f a w).1 (inl g))))
+      (λ (p : (b : Born) × Contains (xs ++ ys) b × CountsBirth every since b × JoinsTo n b.edge.label (row_of b.edge.dst.0 edges) a w).
       either
       (λ (m : Contains xs p.0). (h a w).1 (inl ((f a w).1 (inr (p.0, m, p.2, p.3)))))
       (λ (m : Contains ys p.0). (h a w).1 (inr (p.0, m, p.2, p.3)))
@@ -340,7 +340,7 @@ seconds_in_row n first edges v labels are c a m j = are c a (from_row edges c v 
 pub firsts_idle : (n : Normal) (every : Bool) (since : ℕ) (firsts edges : List Born) (label : LabelId) (labels : List LabelId) (blocks : List Block) → All (λ b. b.edge.label ≡ label) firsts → AreSeconds n label edges labels → labels ≡ [] → AddsRows n every since firsts edges blocks blocks
 firsts_idle n every since firsts edges label labels blocks all are nil a w = (
   λ g. inl g,
-  λ o. either (λ (g : Gives blocks a w). g) (λ (p : (b : Born) × Contains firsts b × Counts every since b × JoinsTo n b.edge.label (row_of b.edge.dst.0 edges) a w). absurd (never p.0 p.1 p.3.0 (from_row edges p.3.0 p.0.edge.dst.0 p.3.1).0 p.3.2)) o,
+  λ o. either (λ (g : BlocksHave blocks a w). g) (λ (p : (b : Born) × Contains firsts b × CountsBirth every since b × JoinsTo n b.edge.label (row_of b.edge.dst.0 edges) a w). absurd (never p.0 p.1 p.3.0 (from_row edges p.3.0 p.0.edge.dst.0 p.3.1).0 p.3.2)) o,
 )
   where
     never : (b : Born) → Contains firsts b → (c : Born) → Contains edges c → Joins n b.edge.label c.edge.label a → ⊥
@@ -350,16 +350,16 @@ firsts_idle n every since firsts edges label labels blocks all are nil a w = (
         let l : r.0 < 0 = r.1 in
         omega arith
 
-pub first_counts : (n : Normal) (every : Bool) (since : ℕ) (b : Born) (edges : List Born) (before after : List Block) → Counts every since b → AddsJoins n b.edge.label (row_of b.edge.dst.0 edges) before after → AddsFirst n every since b edges before after
+pub first_counts : (n : Normal) (every : Bool) (since : ℕ) (b : Born) (edges : List Born) (before after : List Block) → CountsBirth every since b → AddsJoins n b.edge.label (row_of b.edge.dst.0 edges) before after → AddsFirst n every since b edges before after
 first_counts n every since b edges before after counts h a w = (
-  λ g. either (λ (o : Gives before a w). inl o) (λ (p : JoinsTo n b.edge.label (row_of b.edge.dst.0 edges) a w). inr (counts, p)) ((h a w).0 g),
-  λ o. either (λ (g : Gives before a w). (h a w).1 (inl g)) (λ (p : Counts every since b × JoinsTo n b.edge.label (row_of b.edge.dst.0 edges) a w). (h a w).1 (inr p.1)) o,
+  λ g. either (λ (o : BlocksHave before a w). inl o) (λ (p : JoinsTo n b.edge.label (row_of b.edge.dst.0 edges) a w). inr (counts, p)) ((h a w).0 g),
+  λ o. either (λ (g : BlocksHave before a w). (h a w).1 (inl g)) (λ (p : CountsBirth every since b × JoinsTo n b.edge.label (row_of b.edge.dst.0 edges) a w). (h a w).1 (inr p.1)) o,
 )
 
-pub first_does_not : (n : Normal) (every : Bool) (since : ℕ) (b : Born) (edges : List Born) (blocks : List Block) → (Counts every since b → ⊥) → AddsFirst n every since b edges blocks blocks
+pub first_does_not : (n : Normal) (every : Bool) (since : ℕ) (b : Born) (edges : List Born) (blocks : List Block) → (CountsBirth every since b → ⊥) → AddsFirst n every since b edges blocks blocks
 first_does_not n every since b edges blocks none a w = (
   λ g. inl g,
-  λ o. either (λ (g : Gives blocks a w). g) (λ (p : Counts every since b × JoinsTo n b.edge.label (row_of b.edge.dst.0 edges) a w). absurd (none p.0)) o,
+  λ o. either (λ (g : BlocksHave blocks a w). g) (λ (p : CountsBirth every since b × JoinsTo n b.edge.label (row_of b.edge.dst.0 edges) a w). absurd (none p.0)) o,
 )
 
 -- ---- all blocks of a vertex
@@ -395,26 +395,26 @@ module _ (n : Normal) (edges : List Born) (since : ℕ) (u : Vertex) where
   )
 
   module _ (first second : List Block) (f : AddsRows n true since (row_of u.0 (newer_edges since edges)) edges [] first) (s : AddsRows n false since (row_of u.0 edges) (newer_edges since edges) first second) where
-    to : (a : LabelId) (w : Vertex) → Gives second a w → (x : Vertex) × IsCandidate n edges since x (edge u a w)
+    to : (a : LabelId) (w : Vertex) → BlocksHave second a w → (x : Vertex) × IsCandidate n edges since x (edge u a w)
     to a w g =
         either
-        (λ (g : Gives first a w).
+        (λ (g : BlocksHave first a w).
         either
-        (λ (o : Gives [] a w). absurd (let l : o.1.0 < 0 = o.1.1 in omega arith))
-        (λ (p : (b : Born) × Contains (row_of u.0 (newer_edges since edges)) b × Counts true since b × JoinsTo n b.edge.label (row_of b.edge.dst.0 edges) a w).
+        (λ (o : BlocksHave [] a w). absurd (let l : o.1.0 < 0 = o.1.1 in omega arith))
+        (λ (p : (b : Born) × Contains (row_of u.0 (newer_edges since edges)) b × CountsBirth true since b × JoinsTo n b.edge.label (row_of b.edge.dst.0 edges) a w).
         let r = from_row (newer_edges since edges) p.0 u.0 p.1 in
         let new = is_newer since edges p.0 r.0 in
         let t = from_row edges p.3.0 p.0.edge.dst.0 p.3.1 in
         candidate a w p.0 p.3.0 new.0 r.1 t.0 t.1 p.3.2 p.3.3 (inl new.1))
         ((f a w).0 g))
-        (λ (p : (b : Born) × Contains (row_of u.0 edges) b × Counts false since b × JoinsTo n b.edge.label (row_of b.edge.dst.0 (newer_edges since edges)) a w).
+        (λ (p : (b : Born) × Contains (row_of u.0 edges) b × CountsBirth false since b × JoinsTo n b.edge.label (row_of b.edge.dst.0 (newer_edges since edges)) a w).
         let r = from_row edges p.0 u.0 p.1 in
         let t = from_row (newer_edges since edges) p.3.0 p.0.edge.dst.0 p.3.1 in
         let new = is_newer since edges p.3.0 t.0 in
         candidate a w p.0 p.3.0 r.0 r.1 new.0 t.1 p.3.2 p.3.3 (inr new.1))
         ((s a w).0 g)
 
-    back : (a : LabelId) (w : Vertex) → (x : Vertex) × IsCandidate n edges since x (edge u a w) → Gives second a w
+    back : (a : LabelId) (w : Vertex) → (x : Vertex) × IsCandidate n edges since x (edge u a w) → BlocksHave second a w
     back a w h =
         let c = h.1 in
         let b : Born = c.first in

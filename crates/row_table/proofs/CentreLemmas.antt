@@ -9,7 +9,7 @@ use Rattle.graph_words.specs.declared.types.Vertex.{Vertex}
 use Rattle.graph_words.specs.declared.types.Born.{Born}
 use Rattle.closing_machine.proofs.Members.{either}
 use Rattle.partition_file.specs.Spelling.{row_of}
-use Rattle.row_table.specs.Loaded.{Loaded, IsLoaded, IsRow, IsCentre, AreCentres, LiesIn, LiesInHigh}
+use Rattle.row_table.specs.Loaded.{Loaded, IsLoaded, IsRow, IsCentre, AreCentres, LiesInSpan, LiesInHigh}
 use Rattle.row_table.specs.Sieve.{HasNumber, IsEmptySet}
 use Rattle.row_table.specs.Joined.{AppendsCentres, IsEndSet, EndsHere, MarksEnds, vertex}
 use Rattle.row_table.proofs.SearchLemmas.{from_row, in_its_row}
@@ -84,9 +84,9 @@ module _ (edges : List Born) (low : ℕ) where
       (λ w x p e. omega (arith, p.1, e))
       start mid end f g
 
-pub all_centres : (l : Loaded) (mid end : List Vertex) → IsLoaded l → AppendsCentres l.edges (LiesIn l.low) [] mid → AppendsCentres l.edges (LiesInHigh l.high) mid end → AreCentres l.edges end
+pub all_centres : (l : Loaded) (mid end : List Vertex) → IsLoaded l → AppendsCentres l.edges (LiesInSpan l.low) [] mid → AppendsCentres l.edges (LiesInHigh l.high) mid end → AreCentres l.edges end
 all_centres l mid end h f g =
-    let b = centres_both l.edges (LiesIn l.low) (LiesInHigh l.high) (IsRow l) (λ v r. r) (λ v o. o) (spans_behind l h) [] mid end f g in
+    let b = centres_both l.edges (LiesInSpan l.low) (LiesInHigh l.high) (IsRow l) (λ v r. r) (λ v o. o) (spans_behind l h) [] mid end f g in
     rw b.behind (
     record {
       all = λ x y mx my e. b.are.all x y mx my e (subst (λ (v : Vertex). IsRow l v.0) (sym e) (All-contains (λ (z : Born). IsRow l z.edge.src.0) l.edges y h.sources my));

@@ -23,9 +23,9 @@ use Rattle.closing_machine.specs.Rounds.{IsCandidate, IsRound, HasEdge, born}
 use Rattle.closing_machine.proofs.Members.{either, All-from_members}
 use Rattle.row_table.specs.declared.blocks.Block.{Block}
 use Rattle.row_table.specs.declared.span.Span.{Span}
-use Rattle.row_table.specs.Loaded.{Loaded, IsLoaded, IsRow, IsBehind, LiesIn, LiesInHigh}
+use Rattle.row_table.specs.Loaded.{Loaded, IsLoaded, IsRow, IsBehind, LiesInSpan, LiesInHigh}
 use Rattle.row_table.specs.Sieve.{HasNumber, IsEmptySet}
-use Rattle.row_table.specs.Joined.{Gives, GivesEnd, GivesJoins, IsJoinOf, HasEnd, MarksEnds, Sifts, LabelJoins, AppendsLabel, AppendsLacking, JoinsBelow, AppendsBelow, IsNextLabel, JoinsWhere, AppendsJoins, vertex}
+use Rattle.row_table.specs.Joined.{BlocksHave, GivesEnd, GivesJoins, IsJoinOf, HasEnd, MarksEnds, Sifts, LabelJoins, AppendsLabel, AppendsLacking, JoinsBelow, AppendsBelow, IsNextLabel, JoinsWhere, AppendsJoins, vertex}
 use Rattle.row_table.proofs.SearchLemmas.{row_has, from_row}
 
 -- ---- lists
@@ -84,14 +84,14 @@ module _ (row : List Born) (u : Vertex) (blocks : List Block) (a : LabelId) (sou
 
   module _ (none marked after : List Bool) (found sorted : List ℕ) (empty : IsEmptySet none) (marks : MarksEnds (HasEnd row a) none marked) (sifts : Sifts (GivesEnd blocks a) marked after [] found) (same : IsPermutation found sorted) (up : IsSorted nat_cmp sorted) where
     abbrev IsOne : Edge → Type 0
-    IsOne e = (e.src ≡ u) × (e.label ≡ a) × Gives blocks a e.dst × (HasEdge row e → ⊥)
+    IsOne e = (e.src ≡ u) × (e.label ≡ a) × BlocksHave blocks a e.dst × (HasEdge row e → ⊥)
 
     each_is : All IsOne (map (λ w. edge u a (vertex w)) sorted)
     each_is =
         All-map IsOne (λ (w : ℕ). edge u a (vertex w)) sorted
         (All-from_members (λ (w : ℕ). IsOne (edge u a (vertex w))) sorted (λ w m. let f = was_found blocks a marked after found sorted sifts same w m in (refl, refl, f.1, λ h. f.0 (marks.has w (has_end w h)))))
 
-    all_are : (w : Vertex) → Gives blocks a w → HasEdge row (edge u a w) ⊎ Contains (map (λ w. edge u a (vertex w)) sorted) (edge u a w)
+    all_are : (w : Vertex) → BlocksHave blocks a w → HasEdge row (edge u a w) ⊎ Contains (map (λ w. edge u a (vertex w)) sorted) (edge u a w)
     all_are w g =
         either
         (λ (h : HasNumber marked w.0). either (λ (n : HasNumber none w.0). absurd (empty w.0 n)) (λ (e : HasEnd row a w.0). inl (has_edge w e)) (marks.only w.0 h))
@@ -115,7 +115,7 @@ searched_joins row u blocks a none after found sorted empty sifts same up before
       new = l.new;
       behind = l.behind;
       are = record {
-        each = All-weaker (λ (e : Edge). (e.src ≡ u) × (e.label ≡ a) × Contains sorted e.dst.0 × (HasEdge row e → ⊥)) (λ (e : Edge). (e.src ≡ u) × (e.label ≡ a) × Gives blocks a e.dst × (HasEdge row e → ⊥)) (λ e h. (h.0, h.1, (was_found blocks a none after found sorted sifts same e.dst.0 h.2).1, h.3)) l.new l.each;
+        each = All-weaker (λ (e : Edge). (e.src ≡ u) × (e.label ≡ a) × Contains sorted e.dst.0 × (HasEdge row e → ⊥)) (λ (e : Edge). (e.src ≡ u) × (e.label ≡ a) × BlocksHave blocks a e.dst × (HasEdge row e → ⊥)) (λ e h. (h.0, h.1, (was_found blocks a none after found sorted sifts same e.dst.0 h.2).1, h.3)) l.new l.each;
         all = λ w g. either (λ (n : HasNumber none w.0). absurd (empty w.0 n)) (λ (m : Contains found w.0). l.all w.0 (Contains-permutation found sorted w.0 same m)) (sifts.has w.0 g);
         ascending = l.ascending (rises blocks a none after found sorted sifts same up);
       };
@@ -193,7 +193,7 @@ module _ (row : List Born) (u : Vertex) (a : LabelId) where
 
 module _ (row : List Born) (u : Vertex) (blocks : List Block) where
   abbrev IsBelow : ℕ → Edge → Type 0
-  IsBelow k e = (e.src ≡ u) × (e.label.0 < k) × Gives blocks e.label e.dst × (HasEdge row e → ⊥)
+  IsBelow k e = (e.src ≡ u) × (e.label.0 < k) × BlocksHave blocks e.label e.dst × (HasEdge row e → ⊥)
 
   pub below_none : (next : ℕ) (out : List Edge) → IsNextLabel blocks 0 next → AppendsBelow row u blocks next out out
   below_none next out n =
@@ -218,9 +218,9 @@ module _ (row : List Born) (u : Vertex) (blocks : List Block) where
     each_below =
         All-append (IsBelow next) f.new l.new
         (All-weaker (IsBelow k) (IsBelow next) (λ e p. (p.0, (let lt = on in omega (arith, p.1)), p.2, p.3)) f.new f.are.each)
-        (All-weaker (λ (e : Edge). (e.src ≡ u) × (e.label ≡ a) × Gives blocks a e.dst × (HasEdge row e → ⊥)) (IsBelow next) (λ e p. (p.0, (let lt = on in let q : e.label.0 ≡ a.0 = ap (λ (x : LabelId). x.0) p.1 in omega arith), subst (λ (x : LabelId). Gives blocks x e.dst) (sym p.1) p.2, p.3)) l.new l.are.each)
+        (All-weaker (λ (e : Edge). (e.src ≡ u) × (e.label ≡ a) × BlocksHave blocks a e.dst × (HasEdge row e → ⊥)) (IsBelow next) (λ e p. (p.0, (let lt = on in let q : e.label.0 ≡ a.0 = ap (λ (x : LabelId). x.0) p.1 in omega arith), subst (λ (x : LabelId). BlocksHave blocks x e.dst) (sym p.1) p.2, p.3)) l.new l.are.each)
 
-    all_below : (b : LabelId) (w : Vertex) → b.0 < next → Gives blocks b w → HasEdge row (edge u b w) ⊎ Contains both (edge u b w)
+    all_below : (b : LabelId) (w : Vertex) → b.0 < next → BlocksHave blocks b w → HasEdge row (edge u b w) ⊎ Contains both (edge u b w)
     all_below b w lt g =
         elim (cases_lt b.0 k) [
           | inl less ↦ either (λ (h : HasEdge row (edge u b w)). inl h) (λ (m : Contains f.new (edge u b w)). inr (Contains-append_left f.new l.new (edge u b w) m)) (f.are.all b w less g)
@@ -229,14 +229,14 @@ module _ (row : List Born) (u : Vertex) (blocks : List Block) where
             | inr le ↦ (
                 let same : a ≡ b = same_label a b (omega arith) in
                 subst (λ (x : LabelId). HasEdge row (edge u x w) ⊎ Contains both (edge u x w)) same
-                (either (λ (h : HasEdge row (edge u a w)). inl h) (λ (m : Contains l.new (edge u a w)). inr (Contains-append_right f.new l.new (edge u a w) m)) (l.are.all w (subst (λ (x : LabelId). Gives blocks x w) (sym same) g))))
+                (either (λ (h : HasEdge row (edge u a w)). inl h) (λ (m : Contains l.new (edge u a w)). inr (Contains-append_right f.new l.new (edge u a w) m)) (l.are.all w (subst (λ (x : LabelId). BlocksHave blocks x w) (sym same) g))))
           ]
         ]
 
     in_order : (x y : Edge) → Contains f.new x → Contains l.new y → IsBefore x y
     in_order x y mx my =
         let p = All-contains (IsBelow k) f.new x f.are.each mx in
-        let q = All-contains (λ (e : Edge). (e.src ≡ u) × (e.label ≡ a) × Gives blocks a e.dst × (HasEdge row e → ⊥)) l.new y l.are.each my in
+        let q = All-contains (λ (e : Edge). (e.src ≡ u) × (e.label ≡ a) × BlocksHave blocks a e.dst × (HasEdge row e → ⊥)) l.new y l.are.each my in
         let s : x.src.0 ≡ y.src.0 = ap (λ (v : Vertex). v.0) (p.0 ∙ sym q.0) in
         let t : y.label.0 ≡ a.0 = ap (λ (v : LabelId). v.0) q.1 in
         inr (s, inl (omega (arith, p.1)))
@@ -259,7 +259,7 @@ row_sources u edges = All-from_members (λ (b : Born). b.edge.src ≡ u) (row_of
 
 module _ (edges : List Born) (IsOne : Edge → Type 0) (u : Vertex) (blocks : List Block) (gives : GivesJoins IsOne u blocks) where
   abbrev IsBelowAll : Edge → Type 0
-  IsBelowAll e = (e.src ≡ u) × (e.label.0 < 65536) × Gives blocks e.label e.dst × (HasEdge (row_of u.0 edges) e → ⊥)
+  IsBelowAll e = (e.src ≡ u) × (e.label.0 < 65536) × BlocksHave blocks e.label e.dst × (HasEdge (row_of u.0 edges) e → ⊥)
 
   same_edge : (e : Edge) → e.src ≡ u → edge u e.label e.dst ≡ e
   same_edge e s = ap (λ (x : Vertex). edge x e.label e.dst) (sym s)
@@ -268,7 +268,7 @@ module _ (edges : List Born) (IsOne : Edge → Type 0) (u : Vertex) (blocks : Li
   in_row e s h = subst (λ (x : Vertex). HasEdge (row_of x.0 edges) e) s ((row_has edges e).1 h)
 
   module _ (new : List Edge) (j : JoinsBelow (row_of u.0 edges) u blocks 65536 new) (few : All (λ k. k.label.0 < 65536) blocks) where
-    labels : (a : LabelId) (w : Vertex) → Gives blocks a w → a.0 < 65536
+    labels : (a : LabelId) (w : Vertex) → BlocksHave blocks a w → a.0 < 65536
     labels a w g = subst (λ (l : LabelId). l.0 < 65536) g.2 (All-contains (λ (k : Block). k.label.0 < 65536) blocks g.0 few g.1)
 
     pub joins_from : JoinsWhere edges IsOne (λ v. v ≡ u.0) new
@@ -283,7 +283,7 @@ module _ (edges : List Born) (IsOne : Edge → Type 0) (u : Vertex) (blocks : Li
       where
         all : (e : Edge) → IsOne e → e.src ≡ u → HasEdge edges e ⊎ Contains new e
         all e c s =
-            let g : Gives blocks e.label e.dst = (gives e.label e.dst).1 (subst IsOne (sym (same_edge e s)) c) in
+            let g : BlocksHave blocks e.label e.dst = (gives e.label e.dst).1 (subst IsOne (sym (same_edge e s)) c) in
             subst (λ (y : Edge). HasEdge edges y ⊎ Contains new y) (same_edge e s)
             (either (λ (h : HasEdge (row_of u.0 edges) (edge u e.label e.dst)). inl ((row_has edges (edge u e.label e.dst)).0 h)) (λ (m : Contains new (edge u e.label e.dst)). inr m) (j.all e.label e.dst (labels e.label e.dst g) g))
 
@@ -346,22 +346,22 @@ pub record AllJoins (edges : List Born) (IsOne : Edge → Type 0) (new : List Ed
   pub complete : (e : Edge) → IsOne e → HasEdge edges e ⊎ Contains new e
   pub ascending : IsAscending new
 
-pub spans_behind : (l : Loaded) → IsLoaded l → (v w : ℕ) → LiesIn l.low v → LiesInHigh l.high w → v < w
+pub spans_behind : (l : Loaded) → IsLoaded l → (v w : ℕ) → LiesInSpan l.low v → LiesInHigh l.high w → v < w
 spans_behind l h v w p q = behind_low l.low l.high h.behind v w p q
   where
-    behind_low : (low : Span) (high : Option Span) → IsBehind low high → (v w : ℕ) → LiesIn low v → LiesInHigh high w → v < w
+    behind_low : (low : Span) (high : Option Span) → IsBehind low high → (v w : ℕ) → LiesInSpan low v → LiesInHigh high w → v < w
     behind_low low None b v w p q = absurd q
     behind_low low (Some s) b v w p q = omega (arith, p.1, b.0, q.0)
 
-pub two_spans : (l : Loaded) (IsOne : Edge → Type 0) (mid end : List Edge) → IsLoaded l → ((e : Edge) → IsOne e → IsRow l e.src.0) → AppendsJoins l.edges IsOne (LiesIn l.low) [] mid → AppendsJoins l.edges IsOne (LiesInHigh l.high) mid end → AllJoins l.edges IsOne end
+pub two_spans : (l : Loaded) (IsOne : Edge → Type 0) (mid end : List Edge) → IsLoaded l → ((e : Edge) → IsOne e → IsRow l e.src.0) → AppendsJoins l.edges IsOne (LiesInSpan l.low) [] mid → AppendsJoins l.edges IsOne (LiesInHigh l.high) mid end → AllJoins l.edges IsOne end
 two_spans l IsOne mid end h from f g =
-    let a = appends_both l.edges IsOne (LiesIn l.low) (LiesInHigh l.high) (IsRow l) (λ v r. r) (λ v o. o) (spans_behind l h) [] mid end f g in
+    let a = appends_both l.edges IsOne (LiesInSpan l.low) (LiesInHigh l.high) (IsRow l) (λ v r. r) (λ v o. o) (spans_behind l h) [] mid end f g in
     rw a.behind (record { joins = a.are.joins; absent = a.are.absent; complete = λ e c. a.are.complete e c (from e c); ascending = a.are.ascending })
 
 source_is_row : (n : Normal) (l : Loaded) (since : ℕ) → IsLoaded l → (x : Vertex) (e : Edge) → IsCandidate n l.edges since x e → IsRow l e.src.0
 source_is_row n l since h x e c = subst (λ (v : Vertex). IsRow l v.0) (sym c.join.source) (All-contains (λ (b : Born). IsRow l b.edge.src.0) l.edges c.first h.sources c.has_first)
 
-pub all_joins_are_round : (n : Normal) (l : Loaded) (since : ℕ) (mid end : List Edge) → IsLoaded l → AppendsJoins l.edges (IsJoinOf n l.edges since) (LiesIn l.low) [] mid → AppendsJoins l.edges (IsJoinOf n l.edges since) (LiesInHigh l.high) mid end → IsRound n l.edges since end
+pub all_joins_are_round : (n : Normal) (l : Loaded) (since : ℕ) (mid end : List Edge) → IsLoaded l → AppendsJoins l.edges (IsJoinOf n l.edges since) (LiesInSpan l.low) [] mid → AppendsJoins l.edges (IsJoinOf n l.edges since) (LiesInHigh l.high) mid end → IsRound n l.edges since end
 all_joins_are_round n l since mid end h f g =
     let a = two_spans l (IsJoinOf n l.edges since) mid end h (λ e c. source_is_row n l since h c.0 e c.1) f g in
     record { joins = a.joins; absent = a.absent; complete = λ x e c. a.complete e (x, c); ascending = a.ascending }

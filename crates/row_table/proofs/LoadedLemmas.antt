@@ -12,7 +12,7 @@ use Rattle.closing_machine.proofs.Ordered.{ordered_append}
 use Rattle.std.proofs.lemmas.List.{length-take, length-drop, get_or-take, get_or-drop}
 use Rattle.closing_machine.proofs.Members.{either}
 use Rattle.row_table.specs.declared.span.Span.{Span}
-use Rattle.row_table.specs.Index.{PartsAt, AreStarts, AreHighStarts}
+use Rattle.row_table.specs.Index.{PartsEdgesAt, AreStarts, AreHighStarts}
 use Rattle.row_table.proofs.OrderLemmas.{part_ordered, drop_ordered}
 use Rattle.row_table.specs.Loaded.{Loaded, IsLoaded, IsRow, span_of}
 
@@ -54,7 +54,7 @@ pub two_given : (low high : Part) (a b c d : ℕ) (first all : List Born) → Is
 two_given low high a b c d first all p q apart ea eb ec ed es ef = rw (ea, eb, ec, ed, ef, es) (two_loaded low high p q apart)
 
 -- ---- two intervals, cut where the first one ends
-module _ (low high : Span) (edges : List Born) (count : ℕ) (h : IsLoaded (record { low = low; high = Some high; edges = edges })) (at : PartsAt edges low.hi count) where
+module _ (low high : Span) (edges : List Born) (count : ℕ) (h : IsLoaded (record { low = low; high = Some high; edges = edges })) (at : PartsEdgesAt edges low.hi count) where
   pub low_is_part : IsPart (record { lo = low.lo; hi = low.hi; edges = take count edges })
   low_is_part =
       record {

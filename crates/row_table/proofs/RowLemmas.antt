@@ -10,8 +10,8 @@ use Rattle.graph_words.specs.declared.types.Edge.{Edge}
 use Rattle.graph_words.specs.Reach.{IsBefore}
 use Rattle.partition_file.specs.Spelling.{is_from, row_of}
 use Rattle.closing_machine.specs.Rounds.{IsOrdered}
-use Rattle.row_table.specs.Index.{AreBefore, NoneBelow, PartsAt}
-use Rattle.row_table.specs.Loaded.{Loaded, IsLoaded, IsRow, LiesIn, LiesInHigh}
+use Rattle.row_table.specs.Index.{AreBefore, NoneBelow, PartsEdgesAt}
+use Rattle.row_table.specs.Loaded.{Loaded, IsLoaded, IsRow, LiesInSpan, LiesInHigh}
 use Rattle.row_table.specs.declared.span.Span.{Span}
 use Rattle.closing_machine.proofs.Members.{either}
 
@@ -49,7 +49,7 @@ pub before_later : (edges : List Born) (v w n : ℕ) → v ≤ w → AreBefore e
 before_later edges v w n le h = record { within = h.within; before = λ k d lt. (let b : (get_or edges k d).edge.src.0 < v = h.before k d lt in omega arith) }
 
 -- the first that doesn't begin before v parts the edges
-pub parts_here : (edges : List Born) (v n : ℕ) → IsOrdered edges → AreBefore edges v n → n < length edges → ((d : Born) → v ≤ (get_or edges n d).edge.src.0) → PartsAt edges v n
+pub parts_here : (edges : List Born) (v n : ℕ) → IsOrdered edges → AreBefore edges v n → n < length edges → ((d : Born) → v ≤ (get_or edges n d).edge.src.0) → PartsEdgesAt edges v n
 parts_here edges v n ordered h lt here =
     record {
       front = h;
@@ -84,7 +84,7 @@ module _ (edges : List Born) (v : ℕ) (ordered : IsOrdered edges) where
 pub none_below_end : (edges : List Born) (v : ℕ) → NoneBelow edges v (length edges)
 none_below_end edges v k d le lt = absurd (omega arith)
 
-pub parts_end : (edges : List Born) (v n : ℕ) → AreBefore edges v n → length edges ≤ n → PartsAt edges v n
+pub parts_end : (edges : List Born) (v n : ℕ) → AreBefore edges v n → length edges ≤ n → PartsEdgesAt edges v n
 parts_end edges v n h le = record { front = h; behind = λ k d a b. absurd (omega arith) }
 
 -- ---- the row between
@@ -100,7 +100,7 @@ sources_grow edges sorted i j le lt =
       | inr g ↦ (let e : i ≡ j = omega arith in subst (λ (k : ℕ). (get_or edges i some_born).edge.src.0 ≤ (get_or edges k some_born).edge.src.0) e (omega arith))
     ]
 
-module _ (edges : List Born) (v p q : ℕ) (first : PartsAt edges v p) (second : PartsAt edges (v + 1) q) where
+module _ (edges : List Born) (v p q : ℕ) (first : PartsEdgesAt edges v p) (second : PartsEdgesAt edges (v + 1) q) where
   pub in_order : p ≤ q
   in_order =
       elim (cases_lt q p) [
@@ -156,8 +156,8 @@ pub no_row : (l : Loaded) (v : ℕ) → IsLoaded l → (IsRow l v → ⊥) → r
 no_row l v h none =
     filter_constant (is_from v) false l.edges (λ k d lt. is_from_no v (get_or l.edges k d) (λ e. none (subst (λ (u : ℕ). IsRow l u) e (h.sources k d lt))))
 
-pub no_row_at_none : (l m : Loaded) (v : ℕ) → l ≡ m → IsLoaded l → l.high ≡ None → (LiesIn l.low v → ⊥) → [] ≡ row_of v m.edges
+pub no_row_at_none : (l m : Loaded) (v : ℕ) → l ≡ m → IsLoaded l → l.high ≡ None → (LiesInSpan l.low v → ⊥) → [] ≡ row_of v m.edges
 no_row_at_none l m v same h e none = subst (λ (x : Loaded). [] ≡ row_of v x.edges) same (sym (no_row l v h (λ r. either none (λ (x : LiesInHigh l.high v). rw e at x) r)))
 
-pub no_row_at_some : (l m : Loaded) (s : Span) (v : ℕ) → l ≡ m → IsLoaded l → l.high ≡ Some s → (LiesIn l.low v → ⊥) → (LiesIn s v → ⊥) → [] ≡ row_of v m.edges
+pub no_row_at_some : (l m : Loaded) (s : Span) (v : ℕ) → l ≡ m → IsLoaded l → l.high ≡ Some s → (LiesInSpan l.low v → ⊥) → (LiesInSpan s v → ⊥) → [] ≡ row_of v m.edges
 no_row_at_some l m s v same h e none nor = subst (λ (x : Loaded). [] ≡ row_of v x.edges) same (sym (no_row l v h (λ r. either none (λ (x : LiesInHigh l.high v). nor (rw e at x)) r)))

@@ -14,7 +14,7 @@ use Rattle.graph_words.specs.declared.types.Born.{Born}
 use Rattle.closing_machine.proofs.Members.{either}
 use Rattle.row_table.specs.declared.blocks.Block.{Block}
 use Rattle.row_table.specs.Sieve.{HasNumber, AddsNumber}
-use Rattle.row_table.specs.Joined.{BlockGives, EndsHere, GivesEnd, Gives, HasEnd, MarksEnds, Sifts, vertex}
+use Rattle.row_table.specs.Joined.{BlockGives, EndsHere, GivesEnd, BlocksHave, HasEnd, MarksEnds, Sifts, vertex}
 use Rattle.row_table.proofs.BlockLemmas.{EndsAt, gives_push_to, gives_push_back}
 
 -- ---- marks
@@ -138,7 +138,7 @@ module _ (blocks : List Block) (a : LabelId) (i : ℕ) (d : Block) (lt : i < len
   pub blocks_to : (w : ℕ) → GivesEnd (take (i + 1) blocks) a w → GivesEnd (take i blocks) a w ⊎ BlockGives (get_or blocks i d) a w
   blocks_to w h =
       either
-      (λ (g : Gives (take i blocks) a (vertex w)). inl g)
+      (λ (g : BlocksHave (take i blocks) a (vertex w)). inl g)
       (λ (p : ((get_or blocks i d).label ≡ a) × EndsAt (get_or blocks i d).seconds.now (vertex w)). inr (p.0, (p.1.0, p.1.1, ap (λ (v : Vertex). v.0) p.1.2)))
       (gives_push_to (take i blocks) (get_or blocks i d) a (vertex w) (rw (take_more blocks i d lt) at h))
 

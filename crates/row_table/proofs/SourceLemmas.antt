@@ -10,7 +10,7 @@ use Rattle.normal_law.specs.Closure.{Normal}
 use Rattle.closing_machine.specs.Rounds.{IsCandidate, IsOrdered}
 use Rattle.closing_machine.specs.JoinsAt.{IsJoinsAt}
 use Rattle.closing_machine.proofs.Members.{either}
-use Rattle.row_table.specs.Chains.{AtSource, BeginsAt, BeginsBehind, IsNext, IsNextSource}
+use Rattle.row_table.specs.Chains.{AtSource, BeginsAt, BeginsBehind, IsNextOfRow, IsNextSource}
 use Rattle.row_table.specs.Joined.{AppendsJoins}
 use Rattle.row_table.proofs.JoinLemmas.{appends_both, appends_idle}
 use Rattle.row_table.proofs.RowLemmas.{some_born, source_grows, sources_grow}
@@ -28,7 +28,7 @@ pub walk_start : (edges : List Born) (x : Vertex) (place : ℕ) → AtSource edg
 walk_start edges x place at = record { on = omega arith; within = at.within; here = at.here; same = λ j d le lt. absurd (omega arith) }
 
 module _ (edges : List Born) (x : Vertex) (place q : ℕ) (walk : Walk edges x place q) where
-  pub walk_more : (end : ℕ) → q < length edges → (get_or edges q some_born).edge.src.0 ≡ (get_or edges place some_born).edge.src.0 → IsNext edges x.0 (q + 1) end → Walk edges x place end
+  pub walk_more : (end : ℕ) → q < length edges → (get_or edges q some_born).edge.src.0 ≡ (get_or edges place some_born).edge.src.0 → IsNextOfRow edges x.0 (q + 1) end → Walk edges x place end
   walk_more end lt begins next =
       record {
         on = omega (arith, walk.on, next.on);
@@ -85,10 +85,10 @@ module _ (n : Normal) (edges : List Born) (since : ℕ) (x : Vertex) (sorted : I
   abbrev IsOne : Edge → Type 0
   IsOne = IsCandidate n edges since x
 
-  pub at_first : (first : ℕ) → IsNext edges x.0 0 first → AtSource edges x first
+  pub at_first : (first : ℕ) → IsNextOfRow edges x.0 0 first → AtSource edges x first
   at_first first h = record { within = h.within; here = h.here; before = λ j d lt end e. absurd (h.between j d (omega arith) lt e) }
 
-  pub sources_none : (first : ℕ) → IsNext edges x.0 0 first → (out : List Edge) → AppendsJoins edges IsOne (BeginsBehind edges first) out out
+  pub sources_none : (first : ℕ) → IsNextOfRow edges x.0 0 first → (out : List Edge) → AppendsJoins edges IsOne (BeginsBehind edges first) out out
   sources_none first h out =
       appends_idle edges IsOne (BeginsBehind edges first) out (λ e c p.
       let f = first_of n edges since x e c in

@@ -15,8 +15,8 @@ use Rattle.closing_machine.specs.Rounds.{IsCandidate, IsOrdered}
 use Rattle.closing_machine.proofs.Members.{either}
 use Rattle.row_table.specs.declared.blocks.Block.{Block}
 use Rattle.row_table.specs.Loaded.{newer_edges}
-use Rattle.row_table.specs.Joined.{Gives, GivesJoins, JoinsTo, AddsJoins, AddsThroughOne, Through, LabelsAscend}
-use Rattle.row_table.specs.Chains.{AtSource, BeginsAt, IsNext, IsNextSource}
+use Rattle.row_table.specs.Joined.{BlocksHave, GivesJoins, JoinsTo, AddsJoins, AddsThroughOne, Through, LabelsAscend}
+use Rattle.row_table.specs.Chains.{AtSource, BeginsAt, IsNextOfRow, IsNextSource}
 use Rattle.row_table.proofs.SearchLemmas.{from_row, in_its_row}
 use Rattle.row_table.proofs.BlockLemmas.{is_newer, newer_has}
 use Rattle.row_table.proofs.JoinLemmas.{same_vertex}
@@ -28,35 +28,35 @@ newer_labels since row up = AllPairs-filter (λ (x y : Born). x.edge.label.0 ≤
 module _ (n : Normal) (since : ℕ) (x : Vertex) (row newer : List Born) where
   pub new_through : (b : Born) (before after : List Block) → b.edge.dst.0 ≡ x.0 → since ≤ b.birth → AddsJoins n b.edge.label row before after → AddsThroughOne n since x row newer b before after
   new_through b before after e new h a w = (
-    λ g. either (λ (o : Gives before a w). inl o) (λ (j : JoinsTo n b.edge.label row a w). inr (same_vertex b.edge.dst x e, inl (new, j))) ((h a w).0 g),
-    λ o. either (λ (g : Gives before a w). (h a w).1 (inl g)) (λ (t : Through n since x row newer b a w). (h a w).1 (inr (either (λ (p : (since ≤ b.birth) × JoinsTo n b.edge.label row a w). p.1) (λ (p : (b.birth < since) × JoinsTo n b.edge.label newer a w). absurd (omega (arith, p.0))) t.1))) o,
+    λ g. either (λ (o : BlocksHave before a w). inl o) (λ (j : JoinsTo n b.edge.label row a w). inr (same_vertex b.edge.dst x e, inl (new, j))) ((h a w).0 g),
+    λ o. either (λ (g : BlocksHave before a w). (h a w).1 (inl g)) (λ (t : Through n since x row newer b a w). (h a w).1 (inr (either (λ (p : (since ≤ b.birth) × JoinsTo n b.edge.label row a w). p.1) (λ (p : (b.birth < since) × JoinsTo n b.edge.label newer a w). absurd (omega (arith, p.0))) t.1))) o,
   )
 
   pub old_through : (b : Born) (before after : List Block) → b.edge.dst.0 ≡ x.0 → b.birth < since → AddsJoins n b.edge.label newer before after → AddsThroughOne n since x row newer b before after
   old_through b before after e old h a w = (
-    λ g. either (λ (o : Gives before a w). inl o) (λ (j : JoinsTo n b.edge.label newer a w). inr (same_vertex b.edge.dst x e, inr (old, j))) ((h a w).0 g),
-    λ o. either (λ (g : Gives before a w). (h a w).1 (inl g)) (λ (t : Through n since x row newer b a w). (h a w).1 (inr (either (λ (p : (since ≤ b.birth) × JoinsTo n b.edge.label row a w). absurd (omega (arith, p.0))) (λ (p : (b.birth < since) × JoinsTo n b.edge.label newer a w). p.1) t.1))) o,
+    λ g. either (λ (o : BlocksHave before a w). inl o) (λ (j : JoinsTo n b.edge.label newer a w). inr (same_vertex b.edge.dst x e, inr (old, j))) ((h a w).0 g),
+    λ o. either (λ (g : BlocksHave before a w). (h a w).1 (inl g)) (λ (t : Through n since x row newer b a w). (h a w).1 (inr (either (λ (p : (since ≤ b.birth) × JoinsTo n b.edge.label row a w). absurd (omega (arith, p.0))) (λ (p : (b.birth < since) × JoinsTo n b.edge.label newer a w). p.1) t.1))) o,
   )
 
   -- what the edges into x from one place to before another join to
   abbrev pub AddsBetween : List Born → ℕ → ℕ → List Block → List Block → Type 0
   AddsBetween edges p q before after = (a : LabelId) (w : Vertex)
-      → Gives after a w ↔ (Gives before a w ⊎ ((j : ℕ) × (p ≤ j) × (j < q) × Through n since x row newer (get_or edges j some_born) a w))
+      → BlocksHave after a w ↔ (BlocksHave before a w ⊎ ((j : ℕ) × (p ≤ j) × (j < q) × Through n since x row newer (get_or edges j some_born) a w))
 
   pub between_none : (edges : List Born) (p : ℕ) (blocks : List Block) → AddsBetween edges p p blocks blocks
   between_none edges p blocks a w = (
     λ g. inl g,
-    λ o. either (λ (g : Gives blocks a w). g) (λ (t : (j : ℕ) × (p ≤ j) × (j < p) × Through n since x row newer (get_or edges j some_born) a w). absurd (omega (arith, t.1, t.2))) o,
+    λ o. either (λ (g : BlocksHave blocks a w). g) (λ (t : (j : ℕ) × (p ≤ j) × (j < p) × Through n since x row newer (get_or edges j some_born) a w). absurd (omega (arith, t.1, t.2))) o,
   )
 
-  pub between_more : (edges : List Born) (p q end : ℕ) (before now after : List Block) → p ≤ q → IsNext edges x.0 (q + 1) end → AddsBetween edges p q before now → AddsThroughOne n since x row newer (get_or edges q some_born) now after → AddsBetween edges p end before after
+  pub between_more : (edges : List Born) (p q end : ℕ) (before now after : List Block) → p ≤ q → IsNextOfRow edges x.0 (q + 1) end → AddsBetween edges p q before now → AddsThroughOne n since x row newer (get_or edges q some_born) now after → AddsBetween edges p end before after
   between_more edges p q end before now after le next f h a w = (
     λ g. either
-        (λ (g : Gives now a w). either (λ (o : Gives before a w). inl o) (λ (t : (j : ℕ) × (p ≤ j) × (j < q) × Through n since x row newer (get_or edges j some_born) a w). inr (t.0, t.1, omega (arith, t.2, next.on), t.3)) ((f a w).0 g))
+        (λ (g : BlocksHave now a w). either (λ (o : BlocksHave before a w). inl o) (λ (t : (j : ℕ) × (p ≤ j) × (j < q) × Through n since x row newer (get_or edges j some_born) a w). inr (t.0, t.1, omega (arith, t.2, next.on), t.3)) ((f a w).0 g))
         (λ (t : Through n since x row newer (get_or edges q some_born) a w). inr (q, le, omega (arith, next.on), t))
         ((h a w).0 g),
     λ o. either
-        (λ (g : Gives before a w). (h a w).1 (inl ((f a w).1 (inl g))))
+        (λ (g : BlocksHave before a w). (h a w).1 (inl ((f a w).1 (inl g))))
         (λ (t : (j : ℕ) × (p ≤ j) × (j < end) × Through n since x row newer (get_or edges j some_born) a w).
         elim (cases_lt t.0 q) [
           | inl lt ↦ (h a w).1 (inl ((f a w).1 (inr (t.0, t.1, lt, t.3))))
@@ -91,10 +91,10 @@ module _ (n : Normal) (edges : List Born) (since : ℕ) (x u : Vertex) where
     from_here : (j : ℕ) → j < length edges → (here j).edge.src.0 ≡ u.0 → Contains (row_of u.0 edges) (here j)
     from_here j lt e = in_its_row edges (here j) u.0 e (j, lt, get_or_default edges j (here j) some_born lt)
 
-    to : (a : LabelId) (w : Vertex) → Gives blocks a w → IsCandidate n edges since x (edge u a w)
+    to : (a : LabelId) (w : Vertex) → BlocksHave blocks a w → IsCandidate n edges since x (edge u a w)
     to a w g =
         either
-        (λ (o : Gives [] a w). absurd (let l : o.1.0 < 0 = o.1.1 in omega arith))
+        (λ (o : BlocksHave [] a w). absurd (let l : o.1.0 < 0 = o.1.1 in omega arith))
         (λ (p : (j : ℕ) × (place ≤ j) × (j < end) × Through n since x (row_of x.0 edges) (newer_edges since (row_of x.0 edges)) (here j) a w).
         let lt : p.0 < length edges = omega (arith, p.2, next.within) in
         let m = from_here p.0 lt (next.same p.0 some_born p.1 p.2 (ap (λ (v : Vertex). v.0) p.3.0) ∙ begins some_born there) in
@@ -106,7 +106,7 @@ module _ (n : Normal) (edges : List Born) (since : ℕ) (x u : Vertex) where
         p.3.1)
         ((t a w).0 g)
 
-    back : (a : LabelId) (w : Vertex) → IsCandidate n edges since x (edge u a w) → Gives blocks a w
+    back : (a : LabelId) (w : Vertex) → IsCandidate n edges since x (edge u a w) → BlocksHave blocks a w
     back a w c =
         let b : Born = c.first in
         let d : Born = c.second in
@@ -120,7 +120,7 @@ module _ (n : Normal) (edges : List Born) (since : ℕ) (x u : Vertex) where
         let within : k < end = elim (cases_lt k end) [ inl l ↦ l | inr g ↦ absurd (let h : (here place).edge.src.0 < (here end).edge.src.0 = next.other some_born (omega arith) in let m : (here end).edge.src.0 ≤ (here k).edge.src.0 = sources_grow edges sorted end k g lt in omega arith) ] in
         let sd : d.edge.src.0 ≡ x.0 = ap (λ (v : Vertex). v.0) (sym c.join.follows ∙ c.centre) in
         let md = in_its_row edges d x.0 sd c.has_second in
-        let give : Through n since x (row_of x.0 edges) (newer_edges since (row_of x.0 edges)) b a w → Gives blocks a w = λ h. (t a w).1 (inr (k, on, within, subst (λ (y : Born). Through n since x (row_of x.0 edges) (newer_edges since (row_of x.0 edges)) y a w) (sym same) h)) in
+        let give : Through n since x (row_of x.0 edges) (newer_edges since (row_of x.0 edges)) b a w → BlocksHave blocks a w = λ h. (t a w).1 (inr (k, on, within, subst (λ (y : Born). Through n since x (row_of x.0 edges) (newer_edges since (row_of x.0 edges)) y a w) (sym same) h)) in
         elim (cases_lt b.birth since) [
           | inl old ↦ (
               let new : since ≤ d.birth = either (λ (l : since ≤ b.birth). absurd (omega arith)) (λ (l : since ≤ d.birth). l) c.one_new in

@@ -4,7 +4,7 @@ use Rattle.graph_words.specs.declared.types.Vertex.{Vertex}
 use Rattle.graph_words.specs.declared.types.Born.{Born}
 
 -- n is the place of the first edge from the place k on that ends at v, and the number of edges where there is none
-pub record IsNext (edges : List Born) (v k n : ℕ) : Type 0 where
+pub record IsNextOfRow (edges : List Born) (v k n : ℕ) : Type 0 where
   pub on : k ≤ n
   pub within : n ≤ length edges
   pub between : (j : ℕ) (d : Born) → k ≤ j → j < n → (slice_index_or edges j d).edge.dst.0 ≢ v
@@ -13,12 +13,12 @@ pub record IsNext (edges : List Born) (v k n : ℕ) : Type 0 where
 -- behind each edge from the place k on stands the place of the next one that ends where it does
 pub record AreLinks (edges : List Born) (k : ℕ) (next : List ℕ) : Type 0 where
   pub len : length next ≡ length edges
-  pub each : (j : ℕ) (d : Born) → k ≤ j → j < length edges → IsNext edges (slice_index_or edges j d).edge.dst.0 (j + 1) (slice_index next j)
+  pub each : (j : ℕ) (d : Born) → k ≤ j → j < length edges → IsNextOfRow edges (slice_index_or edges j d).edge.dst.0 (j + 1) (slice_index next j)
 
 -- and for each vertex that of the first one from there on
 pub record AreChains (edges : List Born) (k : ℕ) (first next : List ℕ) : Type 0 where
   pub ends : All (λ b. b.edge.dst.0 < length first) edges
-  pub firsts : (v : ℕ) → v < length first → IsNext edges v k (slice_index first v)
+  pub firsts : (v : ℕ) → v < length first → IsNextOfRow edges v k (slice_index first v)
   pub links : AreLinks edges k next
 
 -- the place is that of an edge into x, or the end, and all edges into x before it begin before it does

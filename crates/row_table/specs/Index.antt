@@ -16,14 +16,14 @@ abbrev pub NoneBelow : List Born → ℕ → ℕ → Type 0
 NoneBelow edges v n = (k : ℕ) (d : Born) → n ≤ k → k < length edges → v ≤ (slice_index_or edges k d).edge.src.0
 
 -- the first n edges begin before v, and the others don't
-pub record PartsAt (edges : List Born) (v n : ℕ) : Type 0 where
+pub record PartsEdgesAt (edges : List Born) (v n : ℕ) : Type 0 where
   pub front : AreBefore edges v n
   pub behind : NoneBelow edges v n
 
 -- how many edges begin before each vertex of an interval, and before the vertex behind it
 pub record AreStarts (edges : List Born) (s : Span) (starts : List ℕ) : Type 0 where
   pub len : length starts ≡ (s.hi - s.lo) + 1
-  pub each : (k : ℕ) → k < length starts → PartsAt edges (s.lo + k) (slice_index starts k)
+  pub each : (k : ℕ) → k < length starts → PartsEdgesAt edges (s.lo + k) (slice_index starts k)
 
 -- and so for the second interval, where there is one
 abbrev pub AreHighStarts : List Born → Option Span → List ℕ → Type 0

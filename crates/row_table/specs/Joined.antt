@@ -45,12 +45,12 @@ abbrev pub JoinsTo : Normal → LabelId → List Born → LabelId → Vertex →
 JoinsTo n first row a w = (c : Born) × Contains row c × Joins n first c.edge.label a × (c.edge.dst ≡ w)
 
 -- some block has the label a and an edge that ends at w
-abbrev pub Gives : List Block → LabelId → Vertex → Type 0
-Gives blocks a w = (k : Block) × Contains blocks k × (k.label ≡ a) × ((c : Born) × Contains k.seconds.now c × (c.edge.dst ≡ w))
+abbrev pub BlocksHave : List Block → LabelId → Vertex → Type 0
+BlocksHave blocks a w = (k : Block) × Contains blocks k × (k.label ≡ a) × ((c : Born) × Contains k.seconds.now c × (c.edge.dst ≡ w))
 
 -- the blocks give what they gave, and what the first label joins to with the row
 abbrev pub AddsJoins : Normal → LabelId → List Born → List Block → List Block → Type 0
-AddsJoins n first row before after = (a : LabelId) (w : Vertex) → Gives after a w ↔ (Gives before a w ⊎ JoinsTo n first row a w)
+AddsJoins n first row before after = (a : LabelId) (w : Vertex) → BlocksHave after a w ↔ (BlocksHave before a w ⊎ JoinsTo n first row a w)
 
 -- each label of the edges that joins to some label behind the first one is among these
 abbrev pub AreSeconds : Normal → LabelId → List Born → List LabelId → Type 0
@@ -63,7 +63,7 @@ HasLabels edges set = (c : Born) → Contains edges c → HasNumber set c.edge.l
 -- the blocks give what they gave, and what the first label joins to with the edges of the row that have a second label
 abbrev pub AddsSecond : Normal → LabelId → List Born → LabelId → List Block → List Block → Type 0
 AddsSecond n first row label before after = (a : LabelId) (w : Vertex)
-    → Gives after a w ↔ (Gives before a w ⊎ ((c : Born) × Contains row c × (c.edge.label ≡ label) × Joins n first c.edge.label a × (c.edge.dst ≡ w)))
+    → BlocksHave after a w ↔ (BlocksHave before a w ⊎ ((c : Born) × Contains row c × (c.edge.label ≡ label) × Joins n first c.edge.label a × (c.edge.dst ≡ w)))
 
 -- the first n edges of the row have labels below a number, and the others don't
 pub record PartsLabels (row : List Born) (from n : ℕ) : Type 0 where
@@ -72,18 +72,18 @@ pub record PartsLabels (row : List Born) (from n : ℕ) : Type 0 where
   pub behind : (k : ℕ) (d : Born) → n ≤ k → k < length row → from ≤ (slice_index_or row k d).edge.label.0
 
 -- a first edge that counts: each, or each that is born before since
-abbrev pub Counts : Bool → ℕ → Born → Type 0
-Counts every since b = (every ≡ true) ⊎ (b.birth < since)
+abbrev pub CountsBirth : Bool → ℕ → Born → Type 0
+CountsBirth every since b = (every ≡ true) ⊎ (b.birth < since)
 
 -- the blocks give what they gave, and what a first edge, if it counts, joins to with the row of its end
 abbrev pub AddsFirst : Normal → Bool → ℕ → Born → List Born → List Block → List Block → Type 0
 AddsFirst n every since b edges before after = (a : LabelId) (w : Vertex)
-    → Gives after a w ↔ (Gives before a w ⊎ (Counts every since b × JoinsTo n b.edge.label (row_of b.edge.dst.0 edges) a w))
+    → BlocksHave after a w ↔ (BlocksHave before a w ⊎ (CountsBirth every since b × JoinsTo n b.edge.label (row_of b.edge.dst.0 edges) a w))
 
 -- and so with each of these first edges
 abbrev pub AddsRows : Normal → Bool → ℕ → List Born → List Born → List Block → List Block → Type 0
 AddsRows n every since firsts edges before after = (a : LabelId) (w : Vertex)
-    → Gives after a w ↔ (Gives before a w ⊎ ((b : Born) × Contains firsts b × Counts every since b
+    → BlocksHave after a w ↔ (BlocksHave before a w ⊎ ((b : Born) × Contains firsts b × CountsBirth every since b
     × JoinsTo n b.edge.label (row_of b.edge.dst.0 edges) a w))
 
 -- what an edge that ends at the centre x joins to: a new one with the row of x, and an old one with its new edges
@@ -93,12 +93,12 @@ Through n since x row newer b a w = (b.edge.dst ≡ x)
     ⊎ ((b.birth < since) × JoinsTo n b.edge.label newer a w))
 
 abbrev pub AddsThroughOne : Normal → ℕ → Vertex → List Born → List Born → Born → List Block → List Block → Type 0
-AddsThroughOne n since x row newer b before after = (a : LabelId) (w : Vertex) → Gives after a w
-    ↔ (Gives before a w ⊎ Through n since x row newer b a w)
+AddsThroughOne n since x row newer b before after = (a : LabelId) (w : Vertex) → BlocksHave after a w
+    ↔ (BlocksHave before a w ⊎ Through n since x row newer b a w)
 
 -- the blocks give just the joins of a sort from u
 abbrev pub GivesJoins : (Edge → Type 0) → Vertex → List Block → Type 0
-GivesJoins IsOne u blocks = (a : LabelId) (w : Vertex) → Gives blocks a w ↔ IsOne (edge u a w)
+GivesJoins IsOne u blocks = (a : LabelId) (w : Vertex) → BlocksHave blocks a w ↔ IsOne (edge u a w)
 
 -- ---- the ends of a label
 
@@ -115,7 +115,7 @@ HasEnd row a w = (c : Born) × Contains row c × (c.edge.label ≡ a) × (c.edge
 
 -- the blocks have the label with an edge that ends at w
 abbrev pub GivesEnd : List Block → LabelId → ℕ → Type 0
-GivesEnd blocks a w = Gives blocks a (vertex w)
+GivesEnd blocks a w = BlocksHave blocks a (vertex w)
 
 -- one block has the label and an edge that ends at w
 abbrev pub BlockGives : Block → LabelId → ℕ → Type 0
@@ -145,8 +145,8 @@ pub record AppendsLacking (row : List Born) (u : Vertex) (a : LabelId) (ends : L
 
 -- what the blocks give for a label, less the row, in order
 pub record LabelJoins (row : List Born) (u : Vertex) (blocks : List Block) (a : LabelId) (new : List Edge) : Type 0 where
-  pub each : All (λ e. (e.src ≡ u) × (e.label ≡ a) × Gives blocks a e.dst × (HasEdge row e → ⊥)) new
-  pub all : (w : Vertex) → Gives blocks a w → HasEdge row (edge u a w) ⊎ Contains new (edge u a w)
+  pub each : All (λ e. (e.src ≡ u) × (e.label ≡ a) × BlocksHave blocks a e.dst × (HasEdge row e → ⊥)) new
+  pub all : (w : Vertex) → BlocksHave blocks a w → HasEdge row (edge u a w) ⊎ Contains new (edge u a w)
   pub ascending : IsAscending new
 
 pub record AppendsLabel (row : List Born) (u : Vertex) (blocks : List Block) (a : LabelId) (before after : List Edge) : Type 0 where
@@ -156,8 +156,8 @@ pub record AppendsLabel (row : List Born) (u : Vertex) (blocks : List Block) (a 
 
 -- what the blocks give for the labels below a number, less the row, in order
 pub record JoinsBelow (row : List Born) (u : Vertex) (blocks : List Block) (k : ℕ) (new : List Edge) : Type 0 where
-  pub each : All (λ e. (e.src ≡ u) × (e.label.0 < k) × Gives blocks e.label e.dst × (HasEdge row e → ⊥)) new
-  pub all : (a : LabelId) (w : Vertex) → a.0 < k → Gives blocks a w → HasEdge row (edge u a w) ⊎ Contains new (edge u a w)
+  pub each : All (λ e. (e.src ≡ u) × (e.label.0 < k) × BlocksHave blocks e.label e.dst × (HasEdge row e → ⊥)) new
+  pub all : (a : LabelId) (w : Vertex) → a.0 < k → BlocksHave blocks a w → HasEdge row (edge u a w) ⊎ Contains new (edge u a w)
   pub ascending : IsAscending new
 
 pub record AppendsBelow (row : List Born) (u : Vertex) (blocks : List Block) (k : ℕ) (before after : List Edge) : Type 0 where

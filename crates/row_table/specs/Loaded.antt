@@ -15,16 +15,16 @@ pub record Loaded : Type 0 where
   pub edges : List Born
 
 -- the vertex lies in the interval
-abbrev pub LiesIn : Span → ℕ → Type 0
-LiesIn s v = (s.lo ≤ v) × (v < s.hi)
+abbrev pub LiesInSpan : Span → ℕ → Type 0
+LiesInSpan s v = (s.lo ≤ v) × (v < s.hi)
 
 abbrev pub LiesInHigh : Option Span → ℕ → Type 0
 LiesInHigh None v = ⊥
-LiesInHigh (Some s) v = LiesIn s v
+LiesInHigh (Some s) v = LiesInSpan s v
 
 -- the vertex lies in one of the loaded intervals
 abbrev pub IsRow : Loaded → ℕ → Type 0
-IsRow l v = LiesIn l.low v ⊎ LiesInHigh l.high v
+IsRow l v = LiesInSpan l.low v ⊎ LiesInHigh l.high v
 
 -- where there is a second interval, it is not empty and begins behind the first one
 abbrev pub IsBehind : Span → Option Span → Type 0

@@ -4,7 +4,7 @@ ghost use Rattle.graph_words.specs.declared.types.Born.{Born as ABorn};
 ghost use Rattle.graph_words.specs.declared.types.LabelId.{LabelId as ALabel};
 ghost use Rattle.normal_law.specs.NormalForm.{normal_form};
 ghost use Rattle.row_table.specs.Joined.{LabelsAscend, AddsJoins, AddsSecond, AddsFirst, AddsRows, AreSeconds};
-ghost use Rattle.row_table.specs.Joined.{Counts, GivesJoins, HasLabels, IsJoinOf, PartsLabels};
+ghost use Rattle.row_table.specs.Joined.{CountsBirth, GivesJoins, HasLabels, IsJoinOf, PartsLabels};
 ghost use Rattle.row_table.specs.Sieve.{HasNumber};
 ghost use Rattle.row_table.specs.Loaded.{newer_of};
 
@@ -185,7 +185,7 @@ fn set_labels(
 
 /// Whether a first edge counts: if every one does, or it is born before `since`.
 fn counts(every: bool, first: Born, since: u64) -> bool
-    ensures { IsTrue result ↔ Counts every since first }
+    ensures { IsTrue result ↔ CountsBirth every since first }
 {
     every || first.birth < since
 }

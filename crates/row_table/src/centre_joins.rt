@@ -5,7 +5,7 @@ ghost use Rattle.normal_law.specs.NormalForm.{normal_form};
 ghost use Rattle.partition_file.specs.Spelling.{row_of};
 ghost use Rattle.closing_machine.specs.Rounds.{IsCandidate};
 ghost use Rattle.closing_machine.specs.JoinsAt.{IsJoinsAt};
-ghost use Rattle.row_table.specs.Chains.{AreLinks, AtSource, BeginsAt, IsNext, IsNextSource};
+ghost use Rattle.row_table.specs.Chains.{AreLinks, AtSource, BeginsAt, IsNextOfRow, IsNextSource};
 ghost use Rattle.row_table.specs.Loaded.{newer_edges};
 ghost use Rattle.row_table.specs.Joined.{AddsThroughOne, AppendsJoins, GivesJoins, LabelsAscend};
 
@@ -124,7 +124,7 @@ fn join_sources<'a>(
     requires row { centre.now.row.now ≡ row_of centre.now.vertex.0 centre.now.rows.now.edges }
     requires newer { centre.now.newer.now ≡ newer_edges centre.now.since centre.now.row.now }
     requires links { AreLinks centre.now.rows.now.edges 0 centre.now.next.now }
-    requires first { IsNext centre.now.rows.now.edges centre.now.vertex.0 0 place }
+    requires first { IsNextOfRow centre.now.rows.now.edges centre.now.vertex.0 0 place }
     requires none { out.old.items ≡ [] }
     ensures { OnOk result (IsJoinsAt (normal_form centre.now.normal.now) centre.now.rows.now.edges centre.now.since centre.now.vertex out.new.items) }
 {

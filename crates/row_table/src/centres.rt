@@ -1,7 +1,7 @@
 //! The centres of a round.
 ghost use Rattle.std.specs.Prelude.{◌≡◌, ◌≤◌, Contains, IsTrue, IfSome, IfOk, OnOk};
 ghost use Rattle.graph_words.specs.declared.types.Born.{Born as ABorn};
-ghost use Rattle.row_table.specs.Loaded.{AreCentres, IsCentre, LiesIn, LiesInHigh};
+ghost use Rattle.row_table.specs.Loaded.{AreCentres, IsCentre, LiesInSpan, LiesInHigh};
 ghost use Rattle.row_table.specs.Joined.{AppendsCentres, IsEndSet, vertex as vertex_of};
 
 use crate::number_set::NumberSet;
@@ -47,7 +47,7 @@ fn add_centres(
 ) -> Result<(), AllocError>
     requires ends { IsEndSet rows.now.edges ends.now }
     requires bounds { span.lo ≤ span.hi }
-    ensures { OnOk result (AppendsCentres rows.now.edges (LiesIn span) centres.old.items centres.new.items) }
+    ensures { OnOk result (AppendsCentres rows.now.edges (LiesInSpan span) centres.old.items centres.new.items) }
 {
     for vertex in span.lo..span.hi {
         add_centre(rows, ends, vertex, centres)?;

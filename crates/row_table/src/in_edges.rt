@@ -1,6 +1,6 @@
 //! An index of edges by their ends.
 ghost use Rattle.std.specs.Prelude.{◌≡◌, ◌<◌, ◌≤◌, length, All, IfOk};
-ghost use Rattle.row_table.specs.Chains.{AreChains, AreLinks, IsNext};
+ghost use Rattle.row_table.specs.Chains.{AreChains, AreLinks, IsNextOfRow};
 
 use crate::rows::Rows;
 use graph_words::{Born, Vertex};
@@ -93,7 +93,7 @@ impl<'a> InEdges<'a> {
 
     /// The place of the first edge that ends at the vertex, and the number of edges where there is none.
     pub(crate) fn first(&self, vertex: Vertex) -> usize
-        ensures { IsNext self.now.edges vertex.0 0 result }
+        ensures { IsNextOfRow self.now.edges vertex.0 0 result }
     {
         let at = vertex.0 as usize;
         if at < self.first.len() {

@@ -2,7 +2,7 @@
 ghost use Rattle.std.specs.Prelude.{◌≡◌, ◌≤◌, IfSome, IfOk, OnOk};
 ghost use Rattle.normal_law.specs.NormalForm.{normal_form};
 ghost use Rattle.closing_machine.specs.Rounds.{IsRound};
-ghost use Rattle.row_table.specs.Loaded.{LiesIn, LiesInHigh, newer_of};
+ghost use Rattle.row_table.specs.Loaded.{LiesInSpan, LiesInHigh, newer_of};
 ghost use Rattle.row_table.specs.Joined.{AppendsJoins, HasLabels, IsJoinOf};
 
 use crate::blocks::{Block, Snapshot, mark_labels, set_blocks};
@@ -48,7 +48,7 @@ fn join_span<'a>(
     requires bounds { span.lo ≤ span.hi }
     ensures { OnOk result (AppendsJoins snapshot.now.rows.now.edges
         (IsJoinOf (normal_form snapshot.now.normal.now) snapshot.now.rows.now.edges snapshot.now.since)
-        (LiesIn span) out.old.items out.new.items) }
+        (LiesInSpan span) out.old.items out.new.items) }
 {
     for vertex in span.lo..span.hi {
         join_vertex(snapshot, Vertex(vertex), labels, blocks, sieve, out)?;

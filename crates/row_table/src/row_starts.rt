@@ -2,8 +2,8 @@
 ghost use Rattle.std.specs.Prelude.{◌≡◌, ◌+◌, ◌-◌, ◌≤◌, length, slice_range, IfOk};
 ghost use Rattle.partition_file.specs.Spelling.{row_of};
 ghost use Rattle.closing_machine.specs.Rounds.{IsOrdered};
-ghost use Rattle.row_table.specs.Loaded.{LiesIn};
-ghost use Rattle.row_table.specs.Index.{AreBefore, AreStarts, NoneBelow, PartsAt};
+ghost use Rattle.row_table.specs.Loaded.{LiesInSpan};
+ghost use Rattle.row_table.specs.Index.{AreBefore, AreStarts, NoneBelow, PartsEdgesAt};
 
 use crate::span::Span;
 use graph_words::Born;
@@ -16,7 +16,7 @@ fn place_between(edges: &[Born], mut low: usize, mut high: usize, vertex: u32) -
     requires order { low ≤ high }
     requires within { high ≤ length edges.now }
     requires behind { NoneBelow edges.now vertex high }
-    ensures { PartsAt edges.now vertex result }
+    ensures { PartsEdgesAt edges.now vertex result }
 {
     while low < high {
         let middle = low + (high - low) / 2;
@@ -34,7 +34,7 @@ fn place_between(edges: &[Born], mut low: usize, mut high: usize, vertex: u32) -
 fn place_from(edges: &[Born], mut low: usize, vertex: u32) -> usize
     requires ordered { IsOrdered edges.now }
     requires front { AreBefore edges.now vertex low }
-    ensures { PartsAt edges.now vertex result }
+    ensures { PartsEdgesAt edges.now vertex result }
 {
     let mut stride = 1usize;
     while stride <= edges.len() - low {
@@ -85,7 +85,7 @@ pub(crate) fn part(edges: &[Born], start: usize, end: usize) -> &[Born]
 /// The row of a vertex of the interval: the edges that begin there.
 pub(crate) fn row_in<'a>(edges: &'a [Born], span: Span, starts: &[usize], vertex: u32) -> &'a [Born]
     requires starts { AreStarts edges.now span starts.now }
-    requires vertex { LiesIn span vertex }
+    requires vertex { LiesInSpan span vertex }
     ensures { result.now ≡ row_of vertex edges.now }
 {
     let row = (vertex - span.lo) as usize;

@@ -4,8 +4,8 @@ ghost use Rattle.graph_words.specs.declared.types.Born.{Born as ABorn};
 ghost use Rattle.graph_words.specs.Reach.{IsAscending};
 ghost use Rattle.partition_file.specs.Spelling.{Part, IsPart, row_of};
 ghost use Rattle.closing_machine.specs.Rounds.{HasEdge, IsOrdered};
-ghost use Rattle.row_table.specs.Loaded.{Loaded, LiesIn, IsBehind, IsLoaded, IsRow, StandsBehind, loaded_of, newer_of, newer_edges, Absorbs};
-ghost use Rattle.row_table.specs.Index.{PartsAt, AreStarts, AreHighStarts, AreRows};
+ghost use Rattle.row_table.specs.Loaded.{Loaded, LiesInSpan, IsBehind, IsLoaded, IsRow, StandsBehind, loaded_of, newer_of, newer_edges, Absorbs};
+ghost use Rattle.row_table.specs.Index.{PartsEdgesAt, AreStarts, AreHighStarts, AreRows};
 
 use crate::ordered_edges::{has_edge, merge};
 use crate::row_starts::{row_in, set_starts, starts_of};
@@ -66,7 +66,7 @@ fn two_parts(
     count: usize,
 ) -> Result<(Partition, Option<Partition>), AllocError>
     requires loaded { IsLoaded (record { low = low; high = Some high; edges = edges.items }) }
-    requires count { PartsAt edges.items low.hi count }
+    requires count { PartsEdgesAt edges.items low.hi count }
     ensures { IfOk result (λ parts. loaded_of parts.0 parts.1 ≡ record { low = low; high = Some high; edges = edges.items }) }
 {
     let behind = edges.split_off(count)?;

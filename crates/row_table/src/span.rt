@@ -1,5 +1,5 @@
 ghost use Rattle.std.specs.Prelude.{◌↔◌, IsTrue};
-ghost use Rattle.row_table.specs.Loaded.{LiesIn};
+ghost use Rattle.row_table.specs.Loaded.{LiesInSpan};
 
 /// The vertices from `lo` to before `hi`.
 #[derive(Clone, Copy, Debug, PartialEq, Eq)]
@@ -10,7 +10,7 @@ pub struct Span {
 
 impl Span {
     pub(crate) fn has(self, vertex: u32) -> bool
-        ensures { IsTrue result ↔ LiesIn self vertex }
+        ensures { IsTrue result ↔ LiesInSpan self vertex }
     {
         self.lo <= vertex && vertex < self.hi
     }

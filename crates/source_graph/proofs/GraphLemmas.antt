@@ -15,7 +15,7 @@ use Rattle.emit_list.specs.Vertices.{Listed}
 use Rattle.graph_emit.specs.declared.fault.EmitFault.{EmitFault}
 use Rattle.graph_emit.specs.declared.fault.EmitFault.TheVariants as emit
 use Rattle.graph_emit.specs.declared.fault.EmitKind.{EmitKind}
-use Rattle.graph_emit.specs.Program.{IsGraph, graph_of, listed}
+use Rattle.graph_emit.specs.Program.{IsProgramGraph, graph_of, listed}
 use Rattle.graph_emit.specs.State.{State}
 use Rattle.source_graph.specs.Sources.{HasTokens, IsRefusal, IsSourceGraph, no_graph, no_program, no_token, of_emit, of_lex, of_parse}
 
@@ -34,7 +34,7 @@ same_program text tokens a b p q =
     let items : b.items ≡ a.items = p.only b.items (record { written = q.written; items_are = q.items_are; is = q.is }) in
     ap (λ (l : List Item). record { items = l }) items
 
-same_graph : (kind : EmitKind) (program : Program) (a b : Listed) → IsGraph kind program a → IsGraph kind program b → a ≡ b
+same_graph : (kind : EmitKind) (program : Program) (a b : Listed) → IsProgramGraph kind program a → IsProgramGraph kind program b → a ≡ b
 same_graph kind program a b p q =
     p.same ∙ ap listed (same_state (graph_of kind program) p.state q.state p.walked q.walked) ∙ sym q.same
 
@@ -43,7 +43,7 @@ one_graph kind text a b p q =
     let tokens = same_tokens _ p.tokens q.tokens p.has.tokens_are q.has.tokens_are in
     let only = subst (λ (t : List Token). IsOnlyProgram (source text t) q.program) (sym tokens) q.program_is in
     let program = same_program text p.tokens p.program q.program p.program_is only in
-    same_graph kind p.program a b p.graph (subst (λ (x : Program). IsGraph kind x b) program q.graph)
+    same_graph kind p.program a b p.graph (subst (λ (x : Program). IsProgramGraph kind x b) program q.graph)
 
 -- ---- refusals
 

@@ -17,7 +17,7 @@ use Rattle.emit_list.specs.Vertices.{Listed}
 use Rattle.graph_emit.specs.declared.fault.EmitKind.{EmitKind}
 use Rattle.graph_emit.specs.declared.fault.EmitFault.{EmitFault}
 use Rattle.graph_emit.specs.declared.fault.EmitFault.TheVariants as emit
-use Rattle.graph_emit.specs.Program.{IsGraph, graph_of}
+use Rattle.graph_emit.specs.Program.{IsProgramGraph, graph_of}
 use Rattle.source_graph.specs.declared.graph.SourceFault.{SourceFault}
 use Rattle.source_graph.specs.declared.graph.SourceFault.TheVariants.{At, NoMemory}
 
@@ -44,7 +44,7 @@ pub record IsSourceGraph (kind : EmitKind) (text : List ℕ) (list : Listed) : T
   pub has : HasTokens text tokens
   pub program : Program
   pub program_is : IsOnlyProgram (source text tokens) program
-  pub graph : IsGraph kind program list
+  pub graph : IsProgramGraph kind program list
 
 -- the first refusal of a text: it is too long, or a byte begins no token, or no program goes on with a token, or the
 -- program has no graph

@@ -12,7 +12,7 @@ use Rattle.closing_machine.specs.Machine.{high, low}
 use Rattle.closing_machine.specs.Parts.{all_edges}
 use Rattle.disk_model.specs.Disk.{Contents, Sets}
 use Rattle.intervals.specs.Bounds.{IsCut, low_of, vertices_of}
-use Rattle.partition_file.specs.Spelling.{newest_format, Fits, Part, spelling}
+use Rattle.partition_file.specs.Spelling.{newest_format, FitsPart, Part, spelling}
 use Rattle.dest_map.specs.Counts.{IsCountsOf}
 use Rattle.dest_map.specs.Table.{counts_of}
 use Rattle.manifest_codec.specs.declared.types.PartEntry.{PartEntry}
@@ -35,11 +35,11 @@ pushed P xs y d i size each last k within = elim (cases_lt k i) [
 ]
 
 -- the partition is that of interval i
-pub is_part_at : (s : Source) (ends : List ℕ) (i : ℕ) (p : Part) → Fits (expect_at s ends i) p → p ≡ part_at ends i p.edges
+pub is_part_at : (s : Source) (ends : List ℕ) (i : ℕ) (p : Part) → FitsPart (expect_at s ends i) p → p ≡ part_at ends i p.edges
 is_part_at s ends i p f = λ j. record { lo = f.lo j; hi = f.hi j; edges = p.edges }
 
 -- its edges may be counted
-pub counted_part : (s : Source) (ends : List ℕ) (i : ℕ) (p : Part) → IsCut ends → i < length ends → vertices_of ends ≡ s.copied.vertices → Fits (expect_at s ends i) p → All (IsCounted ends i) p.edges
+pub counted_part : (s : Source) (ends : List ℕ) (i : ℕ) (p : Part) → IsCut ends → i < length ends → vertices_of ends ≡ s.copied.vertices → FitsPart (expect_at s ends i) p → All (IsCounted ends i) p.edges
 counted_part s ends i p cut within whole f = λ k d inside.
     let from = f.part.within k d inside in
     let each = f.each k d inside in
@@ -48,7 +48,7 @@ counted_part s ends i p cut within whole f = λ k d inside.
       destination = omega (arith, each.vertex, whole);
     }
 
-module _ (s : Source) (ends : List ℕ) (tells : Type 0) (c d : Contents) (i : ℕ) (t u : Tables) (p : Part) (b : IsBuilt s ends tells c i t) (fits : Fits (expect_at s ends i) p) (given : tells → AreGiven (normal_form s.normal) (graph_in s c) (low ends i) (high ends i) p.edges)
+module _ (s : Source) (ends : List ℕ) (tells : Type 0) (c d : Contents) (i : ℕ) (t u : Tables) (p : Part) (b : IsBuilt s ends tells c i t) (fits : FitsPart (expect_at s ends i) p) (given : tells → AreGiven (normal_form s.normal) (graph_in s c) (low ends i) (high ends i) p.edges)
     (entries : u.parts ≡ t.parts ++ record { hi = high ends i; file = 4 + i } ∷ []) (counts : (before : List Born) → IsCountsOf ends before t.map → IsCountsOf ends (before ++ p.edges) u.map) (others : (x y : ℕ) → x ≢ i → counts_of u.map x y ≡ counts_of t.map x y)
     (sets : tells → Sets (4 + i) (spelling newest_format p) c d) where
   pub same_copies : tells → SameTexts c d
@@ -80,17 +80,17 @@ module _ (s : Source) (ends : List ℕ) (tells : Type 0) (c d : Contents) (i : �
         size = ap (λ (l : List PartEntry). length l) entries ∙ length-append t.parts (record { hi = high ends i; file = 4 + i } ∷ []) ∙ ap (λ (n : ℕ). n + 1) b.size;
         his = λ k within. rw (entries, map-append (λ (e : PartEntry). e.hi) t.parts (record { hi = high ends i; file = 4 + i } ∷ [])) (pushed (λ n x. x ≡ high ends n) (map (λ e. e.hi) t.parts) (high ends i) 0 i (length-map t.parts (λ (e : PartEntry). e.hi) ∙ b.size) b.his refl k within);
         files = λ k within. rw (entries, map-append (λ (e : PartEntry). e.file) t.parts (record { hi = high ends i; file = 4 + i } ∷ [])) (pushed (λ n x. x ≡ 4 + n) (map (λ e. e.file) t.parts) (4 + i) 0 i (length-map t.parts (λ (e : PartEntry). e.file) ∙ b.size) b.files refl k within);
-        fits = pushed (λ n x. Fits (expect_at s ends n) (part_at ends n x)) b.parts p.edges [] i b.made b.fits (subst (λ (q : Part). Fits (expect_at s ends i) q) (is_part_at s ends i p fits) fits);
+        fits = pushed (λ n x. FitsPart (expect_at s ends n) (part_at ends n x)) b.parts p.edges [] i b.made b.fits (subst (λ (q : Part). FitsPart (expect_at s ends i) q) (is_part_at s ends i p fits) fits);
         counts = subst (λ (es : List Born). IsCountsOf ends es u.map) (sym (one_part_more b.parts p.edges)) (counts (all_edges b.parts) b.counts);
         no_more = λ x y past. others x y (omega (arith, past)) ∙ b.no_more x y (omega (arith, past));
         put = λ tell. pushed (λ n x. IsPut s ends d n x) b.parts p.edges [] i b.made (put_before tell) (put_here tell);
       }
 
 -- bounds, bytes and contents as a call tells them
-pub fits_at : (s : Source) (ends : List ℕ) (i lo hi : ℕ) (p : Part) → lo ≡ low_of ends i → hi ≡ high ends i → Fits (expect_given lo hi s.copied.vertices (length s.copied.labels) (normal_form s.normal).fresh) p → Fits (expect_at s ends i) p
+pub fits_at : (s : Source) (ends : List ℕ) (i lo hi : ℕ) (p : Part) → lo ≡ low_of ends i → hi ≡ high ends i → FitsPart (expect_given lo hi s.copied.vertices (length s.copied.labels) (normal_form s.normal).fresh) p → FitsPart (expect_at s ends i) p
 fits_at s ends i lo hi p a b f =
-    subst (λ (x : ℕ). Fits (expect_given x (high ends i) s.copied.vertices (length s.copied.labels) (normal_form s.normal).fresh) p) (a ∙ sym (same_low ends i))
-    (subst (λ (y : ℕ). Fits (expect_given lo y s.copied.vertices (length s.copied.labels) (normal_form s.normal).fresh) p) b f)
+    subst (λ (x : ℕ). FitsPart (expect_given x (high ends i) s.copied.vertices (length s.copied.labels) (normal_form s.normal).fresh) p) (a ∙ sym (same_low ends i))
+    (subst (λ (y : ℕ). FitsPart (expect_given lo y s.copied.vertices (length s.copied.labels) (normal_form s.normal).fresh) p) b f)
 
 pub given_at : (s : Source) (ends : List ℕ) (c : Contents) (i lo hi : ℕ) (edges : List Born) → lo ≡ low_of ends i → hi ≡ high ends i → AreGiven (normal_form s.normal) (graph_in s c) lo hi edges → AreGiven (normal_form s.normal) (graph_in s c) (low ends i) (high ends i) edges
 given_at s ends c i lo hi edges a b g =

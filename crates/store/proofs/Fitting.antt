@@ -4,7 +4,7 @@ use Rattle.std.specs.Prelude.{All, map}
 use Rattle.std.proofs.lemmas.Bool.Decides.{nat_tests}
 use Rattle.std.proofs.lemmas.List.{get_or-map}
 use Rattle.graph_words.specs.declared.types.Born.{Born}
-use Rattle.closing_machine.specs.State.{IsCut as Cut, part, place, target}
+use Rattle.closing_machine.specs.State.{EndsCut, part, place, target}
 use Rattle.closing_machine.specs.Machine.{high, low}
 use Rattle.closing_machine.specs.Parts.{ArePartitions, all_edges}
 use Rattle.closing_machine.specs.Rounds.{IsOrdered}
@@ -15,7 +15,7 @@ use Rattle.dest_map.specs.Table.{counts_of}
 use Rattle.partition_file.specs.Spelling.{FitsEdge}
 use Rattle.manifest_codec.specs.declared.types.PartEntry.{PartEntry}
 use Rattle.manifest_codec.specs.declared.types.Manifest.{Manifest}
-use Rattle.manifest_codec.specs.Spelling.{Fits, width}
+use Rattle.manifest_codec.specs.Spelling.{FitsManifest, width}
 use Rattle.disk_model.specs.Disk.{Contents}
 use Rattle.store_law.proofs.Intervals.{are_partitions, cut_from_cover}
 use Rattle.open_store.proofs.Places.{place_of_lies}
@@ -68,8 +68,8 @@ module _ (s : Source) (ends : List ℕ) (tells : Type 0) (c : Contents) (t : Tab
   pub partitions : ArePartitions 0 ends b.parts
   partitions = are_partitions 0 ends b.parts b.made (λ i low. let f = b.fits i low in record { ordered = f.part.ascending; sources = f.part.within })
 
-  pub cut_all : Cut 0 ends s.copied.vertices
-  cut_all = subst (λ (l : List ℕ). Cut 0 l s.copied.vertices) ends_of_parts (cut_from_cover s.copied.vertices 0 t.parts (cover_is ends t.parts b.size his_are cut s.copied.vertices whole))
+  pub cut_all : EndsCut 0 ends s.copied.vertices
+  cut_all = subst (λ (l : List ℕ). EndsCut 0 l s.copied.vertices) ends_of_parts (cut_from_cover s.copied.vertices 0 t.parts (cover_is ends t.parts b.size his_are cut s.copied.vertices whole))
 
   pub ordered : IsOrdered (all_edges b.parts)
   ordered = partitions_ordered 0 ends s.copied.vertices b.parts cut_all partitions
@@ -109,7 +109,7 @@ module _ (s : Source) (ends : List ℕ) (tells : Type 0) (c : Contents) (t : Tab
       width_in : (i : ℕ) → i < length ends → width m i ≡ high ends i - low ends i
       width_in i within = rw first.parts (width_is ends t.parts b.size his_are i (omega (arith, within, b.size)))
 
-      pub first_fits : Fits m
+      pub first_fits : FitsManifest m
       first_fits =
           record {
             generation = omega (arith, first.generation);

@@ -21,17 +21,17 @@ use Rattle.closing_machine.specs.Tells.{Tells}
 use Rattle.disk_model.specs.Disk.{Contents}
 use Rattle.intervals.specs.Bounds.{IsCut, vertices_of}
 use Rattle.intervals.specs.DegreeCut.{IsCutByDegree}
-use Rattle.partition_file.specs.Spelling.{Fits as PartFits, newest_format}
+use Rattle.partition_file.specs.Spelling.{FitsPart, newest_format}
 use Rattle.dest_map.specs.Table.{counts_of}
 use Rattle.pair_sched.specs.Marks.{joined_of, newest_of}
 use Rattle.manifest_codec.specs.declared.types.PartEntry.{PartEntry}
 use Rattle.manifest_codec.specs.declared.types.Manifest.{Manifest}
-use Rattle.manifest_codec.specs.Spelling.{Fits}
+use Rattle.manifest_codec.specs.Spelling.{FitsManifest}
 use Rattle.import_text.specs.Given.{AreGiven}
 use Rattle.store_law.specs.Texts.{AreGood, Texts, graph, names_of, normal, rules}
 use Rattle.store_law.specs.Listed.{AreListed, ends_of, expect_of, part_file, part_of, state_in}
 use Rattle.store_law.specs.Left.{IsOfTexts}
-use Rattle.store_law.specs.Imported.{AreDegrees, IsFresh}
+use Rattle.store_law.specs.Imported.{AreDegreesOf, IsFreshStore}
 use Rattle.store.specs.declared.source.Source.{Source}
 use Rattle.store.specs.declared.tables.Tables.{Tables}
 use Rattle.store.specs.Import.{texts_of}
@@ -71,7 +71,7 @@ module _ (grammar : List ℕ) (told : Option (List ℕ)) (tells : Type 0) (c : C
   pub vertices_are : s.copied.vertices ≡ (graph texts).vertices
   vertices_are = sym src.few.each ∙ src.degrees_are.count ∙ ap vertex_count_of edges_are
 
-  pub degrees_of : AreDegrees (graph texts) s.copied.degrees.items
+  pub degrees_of : AreDegreesOf (graph texts) s.copied.degrees.items
   degrees_of =
       record {
         size = src.few.each ∙ vertices_are;
@@ -103,7 +103,7 @@ module _ (grammar : List ℕ) (told : Option (List ℕ)) (tells : Type 0) (c : C
         let o = (given_at k (omega (arith, within, b.made))).only i d inside in
         (o.0, o.2))
 
-    module _ (m : Manifest) (first : IsFirst s t m) (fits : Fits m) where
+    module _ (m : Manifest) (first : IsFirst s t m) (fits : FitsManifest m) where
       pub ends_in : ends_of m ≡ ends
       ends_in = ap (λ (l : List PartEntry). map (λ p. p.hi) l) first.parts ∙ ends_of_parts s ends tells c t cut whole b
 
@@ -122,7 +122,7 @@ module _ (grammar : List ℕ) (told : Option (List ℕ)) (tells : Type 0) (c : C
                 rw (ends_in, file_at i within) (newest_format, (b.put tell i within).spelled);
             fits = λ i low.
                 let within : i < length ends = omega (arith, low, sizes) in
-                subst (λ (n : Normal). PartFits (expect_of m n.fresh i) (part_of m i (get_or b.parts i []))) normal_is (rw (ends_in, first.vertices, first.round, first.labels) (b.fits i within));
+                subst (λ (n : Normal). FitsPart (expect_of m n.fresh i) (part_of m i (get_or b.parts i []))) normal_is (rw (ends_in, first.vertices, first.round, first.labels) (b.fits i within));
           }
 
       opening : IsOpening (normal texts) (graph texts) (state_in m b.parts)
@@ -164,7 +164,7 @@ module _ (grammar : List ℕ) (told : Option (List ℕ)) (tells : Type 0) (c : C
             vertices = first.vertices ∙ vertices_are;
           }
 
-      pub first_fresh : (limit : ℕ) → IsCutByDegree s.copied.degrees.items limit ends → IsFresh texts limit c m b.parts
+      pub first_fresh : (limit : ℕ) → IsCutByDegree s.copied.degrees.items limit ends → IsFreshStore texts limit c m b.parts
       first_fresh limit by_degree =
           record {
             first = first.generation;

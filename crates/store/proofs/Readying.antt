@@ -19,7 +19,7 @@ use Rattle.manifest_codec.specs.declared.types.Manifest.{Manifest}
 use Rattle.import_text.specs.GivenPart.{IsGoodCopy}
 use Rattle.store.specs.declared.source.Source.{Source}
 use Rattle.store.specs.declared.tables.Tables.{Tables}
-use Rattle.store.specs.NewStore.{IsBuilt, IsFirst, IsPrepared, IsSource, MayPut, SameTexts}
+use Rattle.store.specs.NewStore.{IsBuilt, IsFirst, IsPrepared, IsSource, MayPutFirst, SameTexts}
 use Rattle.store.proofs.Fitting.{ends_of_parts, first_fits}
 use Rattle.store.proofs.Lengths.{within_limit}
 use Rattle.store.proofs.Opening.{first_fresh, good_texts, labels_are, vertices_are as text_vertices}
@@ -61,7 +61,7 @@ module _ (grammar : List ℕ) (told : Option (List ℕ)) (tells : Type 0) (c : C
   good_copy : ((names : List (List ℕ)) (text : List ℕ) (edges : List Edge) (labels : List (List ℕ)) → ReadsEdges 0 names text edges labels → IsGoodCopy labels (length text) (vertex_count_of edges) text) → tells → IsGoodCopy s.copied.labels s.copied.len s.copied.vertices (c 3)
   good_copy law tell = rw (src.len_is, vertices_are, src.edges_copy tell) (law (grammar_names grammar) src.text src.edges s.copied.labels src.reads)
 
-  pub may_put : ((names : List (List ℕ)) (text : List ℕ) (edges : List Edge) (labels : List (List ℕ)) → ReadsEdges 0 names text edges labels → IsGoodCopy labels (length text) (vertex_count_of edges) text) → (limit : ℕ) (ends : List ℕ) → IsCutByDegree s.copied.degrees.items limit ends → MayPut s ends tells c
+  pub may_put : ((names : List (List ℕ)) (text : List ℕ) (edges : List Edge) (labels : List (List ℕ)) → ReadsEdges 0 names text edges labels → IsGoodCopy labels (length text) (vertex_count_of edges) text) → (limit : ℕ) (ends : List ℕ) → IsCutByDegree s.copied.degrees.items limit ends → MayPutFirst s ends tells c
   may_put law limit ends by_degree =
       let longer = length-grown src.names s.copied.labels grown in
       record {

@@ -15,7 +15,7 @@ use Rattle.open_store.specs.Copy.{IsCopyRead}
 use Rattle.open_store.specs.Store.{IsHeldAlone, OpenStore}
 use Rattle.store_law.proofs.Keeping.{fresh_beside, fresh_switched}
 use Rattle.store.specs.declared.prepared.Prepared.{Prepared}
-use Rattle.store.specs.Import.{HasFresh, Imports, IsImportOf, IsNewStore, texts_of}
+use Rattle.store.specs.Import.{HasFreshStore, Imports, IsImportOf, IsNewStore, texts_of}
 use Rattle.store.specs.NewStore.{IsBeside, IsPrepared}
 
 pub still_blank : (d c : Contents) → IsBeside d c → IsBlank d → IsBlank c
@@ -26,7 +26,7 @@ same_current d c beside = λ i. chosen (open_body (beside.first i)) (open_body (
 
 module _ (grammar : List ℕ) (told : Option (List ℕ)) (limit : ℕ) (tells : Type 0) (seen : Contents) (p : Prepared) (is : IsPrepared grammar told limit tells seen p) where
   -- the whole new store
-  made_fresh : (c : Contents) → tells → IsMade seen p.manifest c → HasFresh grammar told limit c
+  made_fresh : (c : Contents) → tells → IsMade seen p.manifest c → HasFreshStore grammar told limit c
   made_fresh c tell made =
       record {
         text = is.text;

@@ -12,7 +12,7 @@ use Rattle.manifest_switch.specs.declared.slot.Slot.TheVariants.{Zero}
 use Rattle.manifest_switch.specs.declared.slot.Found.TheVariants.{At}
 use Rattle.manifest_switch.specs.Slots.{current_of}
 use Rattle.store_law.specs.Texts.{AreGood, Texts, graph, names_of}
-use Rattle.store_law.specs.Imported.{IsFresh, IsImported}
+use Rattle.store_law.specs.Imported.{IsFreshStore, IsImported}
 use Rattle.open_store.specs.Store.{IsOpenStore, OpenStore}
 
 -- two texts as those of a store
@@ -42,18 +42,18 @@ pub record IsImportOf (grammar : List ℕ) (told : Option (List ℕ)) (limit : �
   pub imported : IsImported (texts_of grammar text) limit c m parts
 
 -- the same, whichever slot is current
-pub record HasFresh (grammar : List ℕ) (told : Option (List ℕ)) (limit : ℕ) (c : Contents) : Type 0 where
+pub record HasFreshStore (grammar : List ℕ) (told : Option (List ℕ)) (limit : ℕ) (c : Contents) : Type 0 where
   pub text : List ℕ
   pub is_file : (file : List ℕ) → told ≡ Some file → text ≡ file
   pub slot : Slot
   pub manifest : Manifest
   pub current : current_of c ≡ Ok (At slot manifest)
   pub parts : List (List Born)
-  pub fresh : IsFresh (texts_of grammar text) limit c manifest parts
+  pub fresh : IsFreshStore (texts_of grammar text) limit c manifest parts
 
 -- what an import makes of an image at each moment: what is current stays, so that it is still blank, or it is a whole fresh store
 abbrev pub Imports : List ℕ → Option (List ℕ) → ℕ → Contents → Contents → Type 0
-Imports grammar told limit old new = (current_of new ≡ current_of old) ⊎ HasFresh grammar told limit new
+Imports grammar told limit old new = (current_of new ≡ current_of old) ⊎ HasFreshStore grammar told limit new
 
 -- why an import has no answer: the input's count of faults rose, or the disk's; or the edge file, where it is told,
 -- has this first fault behind the grammar's names. The copy of the edges is blamed only where the disk doesn't tell

@@ -10,7 +10,7 @@ use Rattle.closing_machine.specs.Machine.{high, low}
 use Rattle.closing_machine.specs.Parts.{all_edges}
 use Rattle.disk_model.specs.Disk.{Contents}
 use Rattle.intervals.specs.Bounds.{IsCut, LiesIn, vertices_of}
-use Rattle.partition_file.specs.Spelling.{newest_format, Fits, Part, spelling}
+use Rattle.partition_file.specs.Spelling.{newest_format, FitsPart, Part, spelling}
 use Rattle.dest_map.specs.Counts.{IsCountsOf}
 use Rattle.dest_map.specs.Table.{counts_of}
 use Rattle.import_text.specs.Copy.{AreFew}
@@ -21,9 +21,9 @@ use Rattle.label_table.specs.Names.{IsTable}
 use Rattle.pair_sched.specs.Marks.{joined_of, newest_of}
 use Rattle.partition_file.specs.declared.types.Expect.{Expect}
 use Rattle.manifest_codec.specs.declared.types.Manifest.{Manifest}
-use Rattle.manifest_codec.specs.Spelling.{AreMarks, Fits as KeepsRules}
+use Rattle.manifest_codec.specs.Spelling.{AreMarks, FitsManifest}
 use Rattle.store_law.specs.Texts.{AreGood, graph, names_of}
-use Rattle.store_law.specs.Imported.{IsFresh}
+use Rattle.store_law.specs.Imported.{IsFreshStore}
 use Rattle.store_law.specs.Listed.{ends_of}
 use Rattle.store.specs.Import.{texts_of}
 use Rattle.store.specs.declared.prepared.Prepared.{Prepared}
@@ -52,7 +52,7 @@ pub record IsSource (grammar : List ℕ) (told : Option (List ℕ)) (tells : Typ
   pub edges_copy : tells → c 3 ≡ text
 
 -- The intervals cut the vertices of the texts, and the copy of the edges is still the one that was made.
-pub record MayPut (s : Source) (ends : List ℕ) (tells : Type 0) (c : Contents) : Type 0 where
+pub record MayPutFirst (s : Source) (ends : List ℕ) (tells : Type 0) (c : Contents) : Type 0 where
   pub copy_file : s.copied.file ≡ 3
   pub vertices : s.copied.vertices ≤ 16777216
   pub rules : All (λ r. r.left.0 < length s.copied.labels) s.normal
@@ -90,7 +90,7 @@ pub record IsBuilt (s : Source) (ends : List ℕ) (tells : Type 0) (c : Contents
   pub size : length t.parts ≡ i
   pub his : (k : ℕ) → k < i → slice_index_or (map (λ p. p.hi) t.parts) k 0 ≡ high ends k
   pub files : (k : ℕ) → k < i → slice_index_or (map (λ p. p.file) t.parts) k 0 ≡ 4 + k
-  pub fits : (k : ℕ) → k < i → Fits (expect_at s ends k) (part_at ends k (slice_index_or parts k []))
+  pub fits : (k : ℕ) → k < i → FitsPart (expect_at s ends k) (part_at ends k (slice_index_or parts k []))
   pub counts : IsCountsOf ends (all_edges parts) t.map
   pub no_more : (a b : ℕ) → i ≤ a → counts_of t.map a b ≡ 0
   pub put : tells → (k : ℕ) → k < i → IsPut s ends c k (slice_index_or parts k [])
@@ -115,7 +115,7 @@ pub record IsFirst (s : Source) (t : Tables) (m : Manifest) : Type 0 where
 -- All is on the disk but the manifest: it keeps the rules of its format, and with it the contents are a fresh store
 -- of the texts, where the disk tells them.
 pub record IsPrepared (grammar : List ℕ) (told : Option (List ℕ)) (limit : ℕ) (tells : Type 0) (c : Contents) (p : Prepared) : Type 0 where
-  pub fits : KeepsRules p.manifest
+  pub fits : FitsManifest p.manifest
   pub first : p.manifest.generation ≡ 0
   pub names : List (List ℕ)
   pub reads : ReadsGrammar grammar p.normal names
@@ -130,7 +130,7 @@ pub record IsPrepared (grammar : List ℕ) (told : Option (List ℕ)) (limit : �
   pub vertices : p.manifest.vertices ≡ (graph (texts_of grammar text)).vertices
   pub edges_len : p.manifest.edges_len ≡ length text
   pub parts : List (List Born)
-  pub fresh : tells → IsFresh (texts_of grammar text) limit c p.manifest parts
+  pub fresh : tells → IsFreshStore (texts_of grammar text) limit c p.manifest parts
 
 -- an edge from interval i to some interval
 pub record IsCounted (ends : List ℕ) (i : ℕ) (b : Born) : Type 0 where

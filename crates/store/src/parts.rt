@@ -4,10 +4,10 @@ ghost use Rattle.faults.specs.Reasons.{BlamesText, HasReason};
 ghost use Rattle.store_fault.specs.Faults.{why_of};
 ghost use Rattle.normal_law.specs.NormalForm.{normal_form};
 ghost use Rattle.disk_model.specs.View.{LeavesBy, OnlyLooks, on_disk};
-ghost use Rattle.partition_file.specs.Spelling.{Fits};
+ghost use Rattle.partition_file.specs.Spelling.{FitsPart};
 ghost use Rattle.import_text.specs.Given.{AreGiven};
 ghost use Rattle.import_text.specs.GivenPart.{IsGoodCopy, expect_given};
-ghost use Rattle.store.specs.NewStore.{IsBeside, IsBuilt, MayPut, SameTexts, graph_in};
+ghost use Rattle.store.specs.NewStore.{IsBeside, IsBuilt, MayPutFirst, SameTexts, graph_in};
 
 use crate::counts::count_edges;
 use crate::source::Source;
@@ -34,7 +34,7 @@ fn given_part<D: Disk>(
     requires vertices { source.now.copied.vertices ≤ 16777216 }
     requires rules { All (λ r. r.left.0 < length source.now.copied.labels) source.now.normal }
     requires good { IsTrue D.tells → IsGoodCopy source.now.copied.labels source.now.copied.len source.now.copied.vertices (D.seen disk.old 3) }
-    ensures fits { IfOk result (Fits (expect_given span.0 span.1 source.now.copied.vertices
+    ensures fits { IfOk result (FitsPart (expect_given span.0 span.1 source.now.copied.vertices
         (length source.now.copied.labels) (normal_form source.now.normal).fresh)) }
     ensures given { IsTrue D.tells → IfOk result
         (λ p. AreGiven (normal_form source.now.normal) (graph_in source.now (D.seen disk.old)) span.0 span.1 p.edges) }
@@ -54,7 +54,7 @@ fn put_next<D: Disk>(
     tables: &mut Tables,
 ) -> Result<(), StoreFault>
     requires i { i < length intervals.now }
-    requires may { MayPut source.now intervals.now (IsTrue D.tells) (D.seen disk.old) }
+    requires may { MayPutFirst source.now intervals.now (IsTrue D.tells) (D.seen disk.old) }
     requires built { IsBuilt source.now intervals.now (IsTrue D.tells) (D.seen disk.old) i tables.old }
     ensures built { OnOk result (IsBuilt source.now intervals.now (IsTrue D.tells) (D.seen disk.new) (i + 1) tables.new) }
     ensures texts { IsTrue D.tells → OnOk result (SameTexts (D.seen disk.old) (D.seen disk.new)) }
@@ -79,7 +79,7 @@ pub(crate) fn put_parts<D: Disk>(
     source: &Source,
     intervals: &Intervals,
 ) -> Result<Tables, StoreFault>
-    requires may { MayPut source.now intervals.now (IsTrue D.tells) (D.seen disk.old) }
+    requires may { MayPutFirst source.now intervals.now (IsTrue D.tells) (D.seen disk.old) }
     ensures built { IfOk result (IsBuilt source.now intervals.now (IsTrue D.tells) (D.seen disk.new) (length intervals.now)) }
     ensures texts { IsTrue D.tells → IfOk result (λ _. SameTexts (D.seen disk.old) (D.seen disk.new)) }
     ensures any_moment { LeavesBy D.Disk disk.old disk.new IsBeside }

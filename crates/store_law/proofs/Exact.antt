@@ -18,11 +18,11 @@ use Rattle.manifest_codec.specs.declared.types.PartEntry.{PartEntry}
 use Rattle.manifest_codec.specs.declared.types.Manifest.{Manifest}
 use Rattle.store_law.specs.Texts.{Texts, graph, normal}
 use Rattle.store_law.specs.Listed.{AreExact, Lists, ends_of, state_in}
-use Rattle.store_law.specs.Left.{IsDone, IsStore}
+use Rattle.store_law.specs.Left.{HasNoWork, IsStore}
 use Rattle.store_law.proofs.Named.{task_of_texts}
 use Rattle.store_law.proofs.Times.{ListsOnce, lists_once}
 
-module _ (t : Texts) (c : Contents) (m : Manifest) (parts : List (List Born)) (s : IsStore t c m parts) (done : IsDone m) where
+module _ (t : Texts) (c : Contents) (m : Manifest) (parts : List (List Born)) (s : IsStore t c m parts) (done : HasNoWork m) where
   few : length m.labels ≤ 1000
   few = s.rest.texts.fits.labels.short
 

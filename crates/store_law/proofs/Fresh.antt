@@ -19,10 +19,10 @@ use Rattle.manifest_codec.specs.declared.types.PartEntry.{PartEntry}
 use Rattle.manifest_codec.specs.declared.types.Manifest.{Manifest}
 use Rattle.store_law.specs.Texts.{Texts, graph, normal}
 use Rattle.store_law.specs.Listed.{ends_of, state_in}
-use Rattle.store_law.specs.Imported.{AreDegrees, IsFresh}
+use Rattle.store_law.specs.Imported.{AreDegreesOf, IsFreshStore}
 use Rattle.store_law.proofs.Intervals.{cut_from_cover, listed_partitions}
 
-same_degrees : (g : Graph) (a b : List ℕ) → AreDegrees g a → AreDegrees g b → a ≡ b
+same_degrees : (g : Graph) (a b : List ℕ) → AreDegreesOf g a → AreDegreesOf g b → a ≡ b
 same_degrees g a b x y = ext_get_or 0 a b (x.size ∙ sym y.size) (λ i lt. let below : i < g.vertices = omega (arith, lt, x.size) in x.each i below ∙ sym (y.each i below))
 
 -- each edge of an opening state is a given one, and so one of any other
@@ -35,7 +35,7 @@ is_opened n g a b x y z there =
 same_opening : (n : Normal) (g : Graph) (a b : State) → IsOpening n g a → IsOpening n g b → a.edges ≡ b.edges
 same_opening n g a b x y = same_ordered a.edges b.edges x.ordered y.ordered (is_opened n g a b x y) (is_opened n g b a y x)
 
-module _ (t : Texts) (limit : ℕ) (c d : Contents) (m n : Manifest) (xs ys : List (List Born)) (x : IsFresh t limit c m xs) (y : IsFresh t limit d n ys) where
+module _ (t : Texts) (limit : ℕ) (c d : Contents) (m n : Manifest) (xs ys : List (List Born)) (x : IsFreshStore t limit c m xs) (y : IsFreshStore t limit d n ys) where
   same_ends : ends_of m ≡ ends_of n
   same_ends =
       let counts = same_degrees (graph t) x.degrees y.degrees x.counted y.counted in
@@ -48,7 +48,7 @@ module _ (t : Texts) (limit : ℕ) (c d : Contents) (m n : Manifest) (xs ys : Li
   entries k = length-map k.parts (λ (p : PartEntry). p.hi)
 
   -- a partition has the edges that begin in its interval
-  partition_is : (e : Contents) (k : Manifest) (zs : List (List Born)) → IsFresh t limit e k zs → (i : ℕ) → slice_index_or zs i [] ≡ filter (λ b. part (ends_of k) b == i) (all_edges zs)
+  partition_is : (e : Contents) (k : Manifest) (zs : List (List Born)) → IsFreshStore t limit e k zs → (i : ℕ) → slice_index_or zs i [] ≡ filter (λ b. part (ends_of k) b == i) (all_edges zs)
   partition_is e k zs z i =
       sym (filter_partitions (λ p. p == i) 0 (ends_of k) k.vertices zs (cut_from_cover k.vertices 0 k.parts z.texts.fits.cover) (listed_partitions e k (normal t).fresh zs z.listed) ∙ all_where_one zs i)
 

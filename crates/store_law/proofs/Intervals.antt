@@ -3,7 +3,7 @@ use Rattle.std.proofs.Common.{◌≡◌, ℕ, zero, suc, ◌<◌, List, [], ◌�
 use Rattle.std.specs.Prelude.{map, slice_index_or}
 use Rattle.std.proofs.lemmas.List.{length-map}
 use Rattle.graph_words.specs.declared.types.Born.{Born}
-use Rattle.closing_machine.specs.State.{IsCut}
+use Rattle.closing_machine.specs.State.{EndsCut}
 use Rattle.closing_machine.specs.Parts.{ArePartitions, IsPartition}
 use Rattle.disk_model.specs.Disk.{Contents}
 use Rattle.manifest_codec.specs.declared.types.PartEntry.{PartEntry}
@@ -11,7 +11,7 @@ use Rattle.manifest_codec.specs.declared.types.Manifest.{Manifest}
 use Rattle.manifest_codec.specs.Spelling.{Cover}
 use Rattle.store_law.specs.Listed.{AreListed, ends_of}
 
-pub cut_from_cover : (top from : ℕ) (parts : List PartEntry) → Cover top from parts → IsCut from (map (λ p. p.hi) parts) top
+pub cut_from_cover : (top from : ℕ) (parts : List PartEntry) → Cover top from parts → EndsCut from (map (λ p. p.hi) parts) top
 cut_from_cover top from [] h = h
 cut_from_cover top from (p ∷ parts) h = (h.0, cut_from_cover top p.hi parts h.1)
 

@@ -5,10 +5,10 @@ use Rattle.std.proofs.lemmas.List.{get_or-map}
 use Rattle.graph_words.specs.declared.types.Born.{Born}
 use Rattle.closing_machine.proofs.Running.{opening_holds}
 use Rattle.disk_model.specs.Disk.{Contents}
-use Rattle.partition_file.specs.Spelling.{Spells}
+use Rattle.partition_file.specs.Spelling.{SpellsPart}
 use Rattle.manifest_codec.specs.declared.types.PartEntry.{PartEntry}
 use Rattle.manifest_codec.specs.declared.types.Manifest.{Manifest}
-use Rattle.manifest_codec.specs.Spelling.{Fits}
+use Rattle.manifest_codec.specs.Spelling.{FitsManifest}
 use Rattle.manifest_switch.specs.declared.slot.Slot.{Slot}
 use Rattle.manifest_switch.specs.declared.slot.Slot.TheVariants.{Zero}
 use Rattle.manifest_switch.specs.declared.slot.Found.TheVariants.{At}
@@ -19,12 +19,12 @@ use Rattle.manifest_switch.proofs.SlotLemmas.{keeps_stays}
 use Rattle.store_law.specs.Texts.{Texts, graph, normal, edges_text}
 use Rattle.store_law.specs.Listed.{AreListed, part_file, part_of}
 use Rattle.store_law.specs.Left.{IsCopy, IsLeft, IsOfTexts, IsStore, IsStoreOf}
-use Rattle.store_law.specs.Imported.{IsFresh, IsImported}
+use Rattle.store_law.specs.Imported.{IsFreshStore, IsImported}
 use Rattle.disk_model.specs.OneFile.{OnlyFile}
 use Rattle.store_law.specs.Steps.{IsFree, KeepsCopies, KeepsFiles}
 use Rattle.store_law.proofs.Named.{task_of_texts}
 
-pub fresh_holds : (t : Texts) (limit : ℕ) (c : Contents) (m : Manifest) (parts : List (List Born)) → IsFresh t limit c m parts → IsStoreOf t c m parts
+pub fresh_holds : (t : Texts) (limit : ℕ) (c : Contents) (m : Manifest) (parts : List (List Born)) → IsFreshStore t limit c m parts → IsStoreOf t c m parts
 fresh_holds t limit c m parts i =
     let few = i.texts.fits.labels.short in
     record {
@@ -46,7 +46,7 @@ no_entry = record { hi = 0; file = 0 }
 pub entry_file : (m : Manifest) (i : ℕ) → i < length m.parts → part_file m i ≡ (slice_index_or m.parts i no_entry).file
 entry_file m i lt = get_or-map (λ (p : PartEntry). p.file) m.parts i no_entry 0 lt
 
-pub file_above : (m : Manifest) (i : ℕ) → i < length m.parts → Fits m → 4 ≤ part_file m i
+pub file_above : (m : Manifest) (i : ℕ) → i < length m.parts → FitsManifest m → 4 ≤ part_file m i
 file_above m i lt fits = let from = (fits.files i no_entry lt).0 in omega (arith, from, entry_file m i lt)
 
 pub file_apart : (m : Manifest) (f i : ℕ) → i < length m.parts → IsFree m f → part_file m i ≢ f
@@ -71,7 +71,7 @@ pub listed_kept : (d c : Contents) (m : Manifest) (fresh : ℕ) (parts : List (L
 listed_kept d c m fresh parts keeps s =
     record {
       size = s.size;
-      spells = λ i lt. subst (λ (l : List ℕ). Spells l (part_of m i (slice_index_or parts i []))) (sym (keeps.parts i lt)) (s.spells i lt);
+      spells = λ i lt. subst (λ (l : List ℕ). SpellsPart l (part_of m i (slice_index_or parts i []))) (sym (keeps.parts i lt)) (s.spells i lt);
       fits = s.fits;
     }
 
@@ -98,7 +98,7 @@ module _ (t : Texts) (d c : Contents) (m : Manifest) (parts : List (List Born)) 
   abbrev IsBeside : Type 0
   IsBeside = (f : ℕ) → f ≢ 0 → f ≢ 1 → c f ≡ d f
 
-  keeps_beside : IsBeside → Fits m → KeepsFiles m d c
+  keeps_beside : IsBeside → FitsManifest m → KeepsFiles m d c
   keeps_beside others fits =
       record {
         copies = keeps_copies m d c (others 2 (omega arith) (omega arith)) (others 3 (omega arith) (omega arith));
@@ -109,7 +109,7 @@ module _ (t : Texts) (d c : Contents) (m : Manifest) (parts : List (List Born)) 
   beside_slots others s = files_kept t d c m parts (keeps_beside others s.texts.fits) s
 
   -- a fresh store, whatever the slots hold
-  pub fresh_beside : (limit : ℕ) → IsFresh t limit d m parts → IsBeside → IsFresh t limit c m parts
+  pub fresh_beside : (limit : ℕ) → IsFreshStore t limit d m parts → IsBeside → IsFreshStore t limit c m parts
   fresh_beside limit s others =
       record {
         first = s.first;
@@ -123,7 +123,7 @@ module _ (t : Texts) (d c : Contents) (m : Manifest) (parts : List (List Born)) 
       }
 
   -- one whose manifest went to slot 0
-  pub fresh_switched : (limit : ℕ) → IsFresh t limit d m parts → current_of c ≡ Ok (At Zero m) → IsBeside → IsImported t limit c m parts
+  pub fresh_switched : (limit : ℕ) → IsFreshStore t limit d m parts → current_of c ≡ Ok (At Zero m) → IsBeside → IsImported t limit c m parts
   fresh_switched limit s is others = record { current = is; fresh = fresh_beside limit s others }
 
   pub free_file : (f : ℕ) → IsFree m f → OnlyFile f d c → IsStoreOf t d m parts → IsStoreOf t c m parts

@@ -17,20 +17,20 @@ use Rattle.store_law.specs.Listed.{AreListed, ends_of, state_in}
 use Rattle.store_law.specs.Left.{IsOfTexts}
 
 -- a number for each vertex: how many edges of the graph begin there
-pub record AreDegrees (g : Graph) (degrees : List ℕ) : Type 0 where
+pub record AreDegreesOf (g : Graph) (degrees : List ℕ) : Type 0 where
   pub size : length degrees ≡ g.vertices
   pub each : (v : ℕ) → v < g.vertices → slice_index_or degrees v 0 ≡ count_by (λ e. e.src.0 == v) g.edges
 
 -- With this manifest as the current one the contents are a fresh store of the texts: nothing is joined yet, and the
 -- vertices are cut by how many edge lines begin at each. No slot is looked at.
-pub record IsFresh (t : Texts) (limit : ℕ) (c : Contents) (m : Manifest) (parts : List (List Born)) : Type 0 where
+pub record IsFreshStore (t : Texts) (limit : ℕ) (c : Contents) (m : Manifest) (parts : List (List Born)) : Type 0 where
   -- the next generation is 1
   pub first : m.generation ≡ 0
   -- both texts can be read, and the manifest and the copies are theirs
   pub texts : IsOfTexts t c m
   -- the intervals are as long as the limit allows, so the texts and the limit determine them
   pub degrees : List ℕ
-  pub counted : AreDegrees (graph t) degrees
+  pub counted : AreDegreesOf (graph t) degrees
   pub intervals : IsCutByDegree degrees limit (ends_of m)
   -- the partition files can be read
   pub listed : AreListed c m (normal t).fresh parts
@@ -43,4 +43,4 @@ pub record IsFresh (t : Texts) (limit : ℕ) (c : Contents) (m : Manifest) (part
 pub record IsImported (t : Texts) (limit : ℕ) (c : Contents) (m : Manifest) (parts : List (List Born)) : Type 0 where
   -- a run finds this manifest, and the next one goes to slot 1
   pub current : current_of c ≡ Ok (At Zero m)
-  pub fresh : IsFresh t limit c m parts
+  pub fresh : IsFreshStore t limit c m parts

@@ -3,12 +3,12 @@ use Rattle.std.specs.Prelude.{◌≡◌, ℕ, ◌<◌, ◌⊎◌, List, length, 
 use Rattle.graph_words.specs.declared.types.Born.{Born}
 use Rattle.closing_machine.specs.State.{IsDirtyBy}
 use Rattle.closing_machine.specs.Tells.{Tells}
-use Rattle.closing_machine.specs.Holds.{Holds}
+use Rattle.closing_machine.specs.Holds.{IsClosingState}
 use Rattle.disk_model.specs.Disk.{Contents}
 use Rattle.dest_map.specs.Table.{counts_of}
 use Rattle.pair_sched.specs.Marks.{joined_of, newest_of}
 use Rattle.manifest_codec.specs.declared.types.Manifest.{Manifest}
-use Rattle.manifest_codec.specs.Spelling.{Fits}
+use Rattle.manifest_codec.specs.Spelling.{FitsManifest}
 use Rattle.manifest_switch.specs.declared.slot.Slot.{Slot}
 use Rattle.manifest_switch.specs.declared.slot.Found.TheVariants.{At}
 use Rattle.manifest_switch.specs.Slots.{IsBlank, current_of}
@@ -24,7 +24,7 @@ pub record IsCopy (text file : List ℕ) (len : ℕ) : Type 0 where
 pub record IsOfTexts (t : Texts) (c : Contents) (m : Manifest) : Type 0 where
   -- both texts can be read, so the names and the graph are those that a run reads
   pub good : AreGood t
-  pub fits : Fits m
+  pub fits : FitsManifest m
   -- the copies are the texts, so that a run that goes on can compare them
   pub grammar_copy : IsCopy t.grammar (c 2) m.grammar_len
   pub edges_copy : IsCopy (edges_text t) (c 3) m.edges_len
@@ -39,7 +39,7 @@ pub record IsStoreOf (t : Texts) (c : Contents) (m : Manifest) (parts : List (Li
   -- the partition files can be read
   pub listed : AreListed c m (normal t).fresh parts
   -- no edge is listed that isn't reached or twice, the given edges are there, and what is marked joined is joined
-  pub holds : Holds (normal t) (graph t) (state_in m parts)
+  pub holds : IsClosingState (normal t) (graph t) (state_in m parts)
   -- the tables are exact, so that no dirty pair is overlooked
   pub tells : Tells (counts_of m.map) (joined_of m.marks) (newest_of m.marks) (state_in m parts)
 
@@ -51,8 +51,8 @@ pub record IsStore (t : Texts) (c : Contents) (m : Manifest) (parts : List (List
   pub rest : IsStoreOf t c m parts
 
 -- the manifest has no pair with work left
-abbrev pub IsDone : Manifest → Type 0
-IsDone m = (i j : ℕ) → i < length m.parts → j < length m.parts → IsDirtyBy (counts_of m.map) (joined_of m.marks) (newest_of m.marks) i j → ⊥
+abbrev pub HasNoWork : Manifest → Type 0
+HasNoWork m = (i j : ℕ) → i < length m.parts → j < length m.parts → IsDirtyBy (counts_of m.map) (joined_of m.marks) (newest_of m.marks) i j → ⊥
 
 -- the contents are blank, or a store of the texts
 abbrev pub IsLeft : Texts → Contents → Type 0

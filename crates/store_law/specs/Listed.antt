@@ -11,7 +11,7 @@ use Rattle.closing_machine.specs.Machine.{low, high}
 use Rattle.closing_machine.specs.Parts.{all_edges, state_of}
 use Rattle.disk_model.specs.Disk.{Contents}
 use Rattle.partition_file.specs.declared.types.Expect.{Expect}
-use Rattle.partition_file.specs.Spelling.{Part, Fits, Spells}
+use Rattle.partition_file.specs.Spelling.{Part, FitsPart, SpellsPart}
 use Rattle.pair_sched.specs.Marks.{joined_of}
 use Rattle.manifest_codec.specs.declared.types.Manifest.{Manifest}
 use Rattle.manifest_switch.specs.declared.slot.Slot.{Slot}
@@ -46,8 +46,8 @@ part_of m i edges = record { lo = low (ends_of m) i; hi = high (ends_of m) i; ed
 -- the files that the manifest names are these partitions, each in its format
 pub record AreListed (c : Contents) (m : Manifest) (fresh : ℕ) (parts : List (List Born)) : Type 0 where
   pub size : length parts ≡ length m.parts
-  pub spells : (i : ℕ) → i < length m.parts → Spells (c (part_file m i)) (part_of m i (slice_index_or parts i []))
-  pub fits : (i : ℕ) → i < length m.parts → Fits (expect_of m fresh i) (part_of m i (slice_index_or parts i []))
+  pub spells : (i : ℕ) → i < length m.parts → SpellsPart (c (part_file m i)) (part_of m i (slice_index_or parts i []))
+  pub fits : (i : ℕ) → i < length m.parts → FitsPart (expect_of m fresh i) (part_of m i (slice_index_or parts i []))
 
 -- the state of the closing that a manifest and its partitions stand for
 abbrev pub state_in : Manifest → List (List Born) → State

@@ -4,11 +4,11 @@
 ghost use Rattle.std.specs.Prelude.{◌≡◌, ◌≢◌, ◌≤◌, ◌↔◌, ◌∷◌, [], List, ℕ, Ok, None, codes};
 ghost use Rattle.edge_text.specs.EdgesText.{edges_fault};
 ghost use Rattle.graph_words.specs.declared.types.Born.{Born as ABorn};
-ghost use Rattle.closing_machine.specs.State.{IsCut};
+ghost use Rattle.closing_machine.specs.State.{EndsCut};
 ghost use Rattle.closing_machine.specs.Parts.{ArePartitions};
 ghost use Rattle.disk_model.specs.Disk.{Contents};
 ghost use Rattle.manifest_codec.specs.declared.types.Manifest.{Manifest as AManifest};
-ghost use Rattle.manifest_codec.specs.Spelling.{Fits};
+ghost use Rattle.manifest_codec.specs.Spelling.{FitsManifest};
 ghost use Rattle.manifest_switch.specs.declared.slot.Slot.{Slot as ASlot};
 ghost use Rattle.manifest_switch.specs.declared.slot.Slot.TheVariants.{Zero};
 ghost use Rattle.manifest_switch.specs.declared.slot.Found.TheVariants.{At};
@@ -16,21 +16,21 @@ ghost use Rattle.manifest_switch.specs.Slots.{IsBlank, current_of};
 ghost use Rattle.manifest_switch.specs.Steps.{IsMade, Keeps, Stays, Switches};
 ghost use Rattle.store_law.specs.Texts.{AreGoodInTurn, Texts, joined_text};
 ghost use Rattle.store_law.specs.Listed.{AreExact, AreListed, ends_of};
-ghost use Rattle.store_law.specs.Left.{IsDone, IsLeft, IsOfTexts, IsStore, IsStoreOf};
-ghost use Rattle.store_law.specs.Imported.{IsFresh, IsImported};
+ghost use Rattle.store_law.specs.Left.{HasNoWork, IsLeft, IsOfTexts, IsStore, IsStoreOf};
+ghost use Rattle.store_law.specs.Imported.{IsFreshStore, IsImported};
 ghost use Rattle.disk_model.specs.OneFile.{OnlyFile};
 ghost use Rattle.store_law.specs.Steps.{IsFree, KeepsCopies, KeepsFiles};
 
 /// The partitions that a manifest lists are partitions of its intervals, which cut the vertices.
 pub fn listed_are_partitions()
-    ensures cut { (m : AManifest) → Fits m → IsCut 0 (ends_of m) m.vertices }
+    ensures cut { (m : AManifest) → FitsManifest m → EndsCut 0 (ends_of m) m.vertices }
     ensures parts { (c : Contents) (m : AManifest) (fresh : ℕ) (parts : List (List ABorn))
         → AreListed c m fresh parts → ArePartitions 0 (ends_of m) parts }
 {}
 
 /// A store of two texts that has no work left lists exactly their closure, each edge once.
 pub fn finished_stores_are_exact()
-    ensures { (t : Texts) (c : Contents) (m : AManifest) (parts : List (List ABorn)) → IsStore t c m parts → IsDone m → AreExact t c }
+    ensures { (t : Texts) (c : Contents) (m : AManifest) (parts : List (List ABorn)) → IsStore t c m parts → HasNoWork m → AreExact t c }
 {}
 
 /// A store of two texts is what a stopped run may leave.
@@ -41,11 +41,11 @@ pub fn stores_are_left()
 /// A fresh store is a store, and what is one with its manifest becomes it by a switch to slot 0.
 pub fn imported_is_a_store()
     ensures rest { (t : Texts) (limit : ℕ) (c : Contents) (m : AManifest) (parts : List (List ABorn))
-        → IsFresh t limit c m parts → IsStoreOf t c m parts }
+        → IsFreshStore t limit c m parts → IsStoreOf t c m parts }
     ensures beside { (t : Texts) (limit : ℕ) (seen c : Contents) (m : AManifest) (parts : List (List ABorn))
-        → IsFresh t limit seen m parts → ((f : ℕ) → f ≢ 0 → f ≢ 1 → c f ≡ seen f) → IsFresh t limit c m parts }
+        → IsFreshStore t limit seen m parts → ((f : ℕ) → f ≢ 0 → f ≢ 1 → c f ≡ seen f) → IsFreshStore t limit c m parts }
     ensures switched { (t : Texts) (seen c : Contents) (m : AManifest) (parts : List (List ABorn)) (limit : ℕ)
-        → IsFresh t limit seen m parts → current_of c ≡ Ok (At Zero m) → ((f : ℕ) → f ≢ 0 → f ≢ 1 → c f ≡ seen f)
+        → IsFreshStore t limit seen m parts → current_of c ≡ Ok (At Zero m) → ((f : ℕ) → f ≢ 0 → f ≢ 1 → c f ≡ seen f)
         → IsImported t limit c m parts }
     ensures store { (t : Texts) (limit : ℕ) (c : Contents) (m : AManifest) (parts : List (List ABorn))
         → IsImported t limit c m parts → IsStore t c m parts }
@@ -54,12 +54,12 @@ pub fn imported_is_a_store()
 /// The texts and the limit determine the intervals of a fresh store and what its partitions list.
 pub fn fresh_stores_are_alike()
     ensures { (t : Texts) (limit : ℕ) (c d : Contents) (m n : AManifest) (xs ys : List (List ABorn))
-        → IsFresh t limit c m xs → IsFresh t limit d n ys → (ends_of m ≡ ends_of n) × (xs ≡ ys) }
+        → IsFreshStore t limit c m xs → IsFreshStore t limit d n ys → (ends_of m ≡ ends_of n) × (xs ≡ ys) }
 {}
 
 /// The files that a manifest names list one choice of partitions at most.
 pub fn bytes_tell_what_is_listed()
-    ensures { (c : Contents) (m : AManifest) (fresh : ℕ) (xs ys : List (List ABorn)) → Fits m
+    ensures { (c : Contents) (m : AManifest) (fresh : ℕ) (xs ys : List (List ABorn)) → FitsManifest m
         → AreListed c m fresh xs → AreListed c m fresh ys → xs ≡ ys }
 {}
 

@@ -21,7 +21,7 @@ use Rattle.closing_machine.specs.Capacity.{IsInBox, capacity}
 use Rattle.closing_machine.proofs.Members.{either, Contains-kept, passes}
 use Rattle.closing_machine.proofs.Room.{capacity_bounds}
 use Rattle.row_table.specs.declared.span.Span.{Span}
-use Rattle.row_table.specs.Loaded.{Loaded, IsLoaded, IsRow, IsBehind, LiesIn, LiesInHigh}
+use Rattle.row_table.specs.Loaded.{Loaded, IsLoaded, IsRow, IsBehind, LiesInSpan, LiesInHigh}
 use Rattle.superstep.specs.Room.{IsInFormat, capacity_of, capacity_of_high}
 
 -- ---- labels of the normal form
@@ -38,18 +38,18 @@ joins_known rules g b c a (p, has, e, f, up) =
 
 -- ---- edges of two intervals
 
-box : (s : Span) (b : Born) → LiesIn s b.edge.src.0 → IsInFormat b → IsInBox s.lo s.hi b
+box : (s : Span) (b : Born) → LiesInSpan s b.edge.src.0 → IsInFormat b → IsInBox s.lo s.hi b
 box s b lies f = record { above = lies.0; below = lies.1; label = f.label; vertex = f.vertex }
 
-in_low : (low high : Span) (b : Born) → low.hi ≤ high.lo → LiesIn low b.edge.src.0 ⊎ LiesIn high b.edge.src.0 → nat_lt b.edge.src.0 low.hi ≡ true → LiesIn low b.edge.src.0
+in_low : (low high : Span) (b : Born) → low.hi ≤ high.lo → LiesInSpan low b.edge.src.0 ⊎ LiesInSpan high b.edge.src.0 → nat_lt b.edge.src.0 low.hi ≡ true → LiesInSpan low b.edge.src.0
 in_low low high b le (inl h) t = h
 in_low low high b le (inr h) t = let lt : b.edge.src.0 < low.hi = grind (arith, nat_tests) in let ge : high.lo ≤ b.edge.src.0 = h.0 in absurd (omega arith)
 
-in_high : (low high : Span) (b : Born) → low.hi ≤ high.lo → LiesIn low b.edge.src.0 ⊎ LiesIn high b.edge.src.0 → not (nat_lt b.edge.src.0 low.hi) ≡ true → LiesIn high b.edge.src.0
+in_high : (low high : Span) (b : Born) → low.hi ≤ high.lo → LiesInSpan low b.edge.src.0 ⊎ LiesInSpan high b.edge.src.0 → not (nat_lt b.edge.src.0 low.hi) ≡ true → LiesInSpan high b.edge.src.0
 in_high low high b le (inr h) t = h
 in_high low high b le (inl h) t = let lt : b.edge.src.0 < low.hi = h.1 in let f : nat_lt b.edge.src.0 low.hi ≡ true = grind (arith, nat_tests) in absurd (cc)
 
-fits_of : (low : Span) (high : Option Span) (edges : List Born) → IsBehind low high → IsOrdered edges → ((b : Born) → Contains edges b → LiesIn low b.edge.src.0 ⊎ LiesInHigh high b.edge.src.0) → ((b : Born) → Contains edges b → IsInFormat b) → length edges ≤ capacity low.lo low.hi + capacity_of_high high
+fits_of : (low : Span) (high : Option Span) (edges : List Born) → IsBehind low high → IsOrdered edges → ((b : Born) → Contains edges b → LiesInSpan low b.edge.src.0 ⊎ LiesInHigh high b.edge.src.0) → ((b : Born) → Contains edges b → IsInFormat b) → length edges ≤ capacity low.lo low.hi + capacity_of_high high
 fits_of low None edges behind o rows format =
     let h = capacity_bounds low.lo low.hi edges o (λ b m. box low b (either (λ l. l) (λ n. absurd n) (rows b m)) (format b m)) in
     omega arith

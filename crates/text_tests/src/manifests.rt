@@ -1,6 +1,6 @@
 //! The bytes of manifests.
 ghost use Rattle.std.specs.Prelude.{IfOk};
-ghost use Rattle.manifest_codec.specs.Spelling.{Fits};
+ghost use Rattle.manifest_codec.specs.Spelling.{FitsManifest};
 
 use disk_model::FormKind;
 use manifest_codec::{Manifest, ManifestError, PartEntry, decode, encode};
@@ -27,7 +27,7 @@ const TWO: [u8; 133] = [
 ];
 
 fn decoded(alloc: Global, bytes: &[u8]) -> Result<(Manifest, usize), Fail>
-    ensures { IfOk result (λ said. Fits said.0) }
+    ensures { IfOk result (λ said. FitsManifest said.0) }
 {
     Ok(
         decode(alloc, bytes)

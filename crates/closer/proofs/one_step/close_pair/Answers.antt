@@ -3,7 +3,7 @@ use Rattle.disk_model.specs.Disk.{Contents}
 use Rattle.manifest_codec.specs.declared.types.Manifest.{Manifest}
 use Rattle.disk_model.specs.Run.{if_ok}
 use Rattle.open_store.proofs.Causes.{handed}
-use Rattle.closer.specs.NextManifest.{ArePut, IsLeastMarkIn, IsNext, MayPutPair}
+use Rattle.closer.specs.NextManifest.{ArePut, IsLeastMarkIn, IsNextManifest, MayPutPair}
 use Rattle.closer.proofs.Closings.{blamed_turned, cause_more, high_within}
 use Rattle.closer.proofs.Images.{further, looked}
 use Rattle.closer.proofs.Nexting.{may_put_pair}
@@ -36,7 +36,7 @@ returns-clause-next g c =
     let low = c.in_order-low.result.0 in
     let high = c.in_order-low.result.1 in
     let ran = c.in_ok-ran.ran in
-    if_ok _ (IsNext s D.tells (D.seen c.args.disk.now) (D.seen c.put_pair.new.disk) c.args.i c.args.j) c.put_pair.result
+    if_ok _ (IsNextManifest s D.tells (D.seen c.args.disk.now) (D.seen c.put_pair.new.disk) c.args.i c.args.j) c.put_pair.result
     (λ next put. record {
       low = low;
       high = high;

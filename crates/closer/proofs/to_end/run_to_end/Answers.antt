@@ -1,6 +1,6 @@
 use Rattle.std.proofs.Common.{◌≡◌, ◌∙◌, refl, subst, arith, inl}
 use Rattle.normal_law.specs.NormalForm.{normal_form}
-use Rattle.store_law.specs.Left.{IsDone}
+use Rattle.store_law.specs.Left.{HasNoWork}
 use Rattle.open_store.proofs.Causes.{handed}
 use Rattle.closer.specs.declared.one_step.Stepped.{Stepped}
 use Rattle.closer.specs.Answers.{IfAgain, IfFinished, IsStepped}
@@ -75,5 +75,5 @@ returns-in-Finished-clause-closed g c =
     let D = g.D.Disk in
     let t = c.loop-next.current in
     let inv = c.loop-next.invariant in
-    let f = subst (λ (x : Stepped). IfFinished x (λ o. (o ≡ t) × IsDone t.manifest × (c.step.new.disk ≡ c.loop-next.disk))) c.in-Finished.is c.in_ok-next.ensures.finished in
+    let f = subst (λ (x : Stepped). IfFinished x (λ o. (o ≡ t) × HasNoWork t.manifest × (c.step.new.disk ≡ c.loop-next.disk))) c.in-Finished.is c.in_ok-next.ensures.finished in
     closed_here D.seen D.may_leave D.tells c.args.store t c.in-Finished.last c.args.disk.now c.loop-next.disk c.step.new.disk f.0 f.1 f.2 inv.rules inv.on inv.held inv.synced

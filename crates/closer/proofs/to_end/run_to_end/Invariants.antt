@@ -3,7 +3,7 @@ use Rattle.std.specs.Prelude.{IsTrue}
 use Rattle.normal_law.specs.NormalForm.{normal_form}
 use Rattle.disk_model.specs.Disk.{Contents}
 use Rattle.disk_model.specs.Crash.{From, LeavesJust, LeavesOnly}
-use Rattle.store_law.specs.Left.{IsDone}
+use Rattle.store_law.specs.Left.{HasNoWork}
 use Rattle.open_store.specs.Store.{IsHeldAlone}
 use Rattle.closer.specs.Continuation.{Continues, Retains, work_of}
 use Rattle.closer.specs.Answers.{Moves}
@@ -17,7 +17,7 @@ invariant-loop-next g l =
       on : IsTrue D.tells → (k : ℕ) × Continues (normal_form l.fn.store.rules) k (D.seen l.fn.disk) l.fn.store.manifest (D.seen l.disk) l.current.manifest;
       held : (c : Contents) → D.may_leave l.disk c → IsHeldAlone l.current c;
       synced : LeavesJust (D.seen l.fn.disk) (D.may_leave l.fn.disk) → LeavesJust (D.seen l.disk) (D.may_leave l.disk);
-      rest : IsDone l.fn.store.manifest → (l.current ≡ l.fn.store) × (l.disk ≡ l.fn.disk);
+      rest : HasNoWork l.fn.store.manifest → (l.current ≡ l.fn.store) × (l.disk ≡ l.fn.disk);
       any_moment : LeavesOnly D.moment D.left_since l.fn.disk l.disk (From (D.may_leave l.fn.disk) (Moves l.fn.store (D.seen l.fn.disk)));
       behind : (c : Contents) → From (D.may_leave l.disk) (Retains l.current.manifest) c → From (D.may_leave l.fn.disk) (Moves l.fn.store (D.seen l.fn.disk)) c;
       later : D.faults l.fn.disk ≤ D.faults l.disk;

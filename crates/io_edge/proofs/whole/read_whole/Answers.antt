@@ -1,10 +1,10 @@
 use Rattle.std.proofs.Common.{◌≡◌, ◌+◌, ◌≤◌, ℕ, List, Some, ◌++◌, length, length-take, take, ◌∙◌, ap, sym, subst, arith, rules}
 use Rattle.std.proofs.Math.Seq.{take-add, take-append_seam}
-use Rattle.io_edge.specs.Devices.{Gives}
+use Rattle.io_edge.specs.Devices.{GivesBytes}
 use Rattle.io_edge.proofs.whole.read_whole.Goals as goal
 
 -- bytes more, behind those with which a file begins
-one_piece_more : (file whole buf : List ℕ) (at n : ℕ) → whole ≡ take at file → at ≤ length file → Gives file at buf n → (whole ++ take n buf ≡ take (at + n) file) × (at + n ≤ length file)
+one_piece_more : (file whole buf : List ℕ) (at n : ℕ) → whole ≡ take at file → at ≤ length file → GivesBytes file at buf n → (whole ++ take n buf ≡ take (at + n) file) × (at + n ≤ length file)
 one_piece_more file whole buf at n front within gives =
     (ap (λ (l : List ℕ). l ++ take n buf) front ∙ ap (λ (l : List ℕ). take at file ++ l) gives.bytes ∙ sym (take-add at n file), omega (arith, gives.within))
 

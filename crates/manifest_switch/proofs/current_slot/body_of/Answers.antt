@@ -5,7 +5,7 @@ use Rattle.manifest_codec.specs.declared.types.Manifest.{Manifest}
 use Rattle.manifest_codec.specs.declared.types.ManifestFault.{ManifestFault}
 use Rattle.manifest_switch.specs.declared.slot.OpenFault.{OpenFault}
 use Rattle.manifest_switch.specs.declared.slot.OpenFault.TheVariants.{DiskFault, BadStore, NoMemory}
-use Rattle.manifest_switch.specs.Answers.{Gives}
+use Rattle.manifest_switch.specs.Answers.{GivesUnblamed}
 use Rattle.manifest_codec.specs.FieldsRead.{reading}
 use Rattle.manifest_switch.specs.Slots.{file_of, value_of}
 use Rattle.manifest_switch.proofs.CodecLemmas.{settled, whole_body}
@@ -20,7 +20,7 @@ returns-then-not-is_cut-clause-says g c = λ tells.
     let is = subst (λ (y : Contents). said ≡ value_of (reading (take size (drop 1 (y f))))) c.loop-size.invariant.looks.same_seen (c.in_ok-said.ensures.says tells) in
     settled (D.seen c.args.disk.now f) size said c.more_bytes_change_nothing.ensures is (c.is_cut.ensures.whole c.if-not-is_cut.true)
 
-gives : (P Q : Result Manifest ManifestFault → Type 0) (r : Result (Result Manifest ManifestFault) OpenFault) → ((x : Result Manifest ManifestFault) → P x → Q x) → Gives r P → Gives r Q
+gives : (P Q : Result Manifest ManifestFault → Type 0) (r : Result (Result Manifest ManifestFault) OpenFault) → ((x : Result Manifest ManifestFault) → P x → Q x) → GivesUnblamed r P → GivesUnblamed r Q
 gives P Q (Ok x) f p = f x p
 gives P Q (Err (BadStore file place kind)) f p = p
 gives P Q (Err DiskFault) f p = p

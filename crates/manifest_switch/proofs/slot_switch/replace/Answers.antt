@@ -1,6 +1,6 @@
 use Rattle.std.proofs.Common.{inl, ℕ, List, sym, ◌∙◌, subst}
 use Rattle.disk_model.specs.Run.{then_run}
-use Rattle.manifest_switch.specs.Slots.{file_of, IsClosed}
+use Rattle.manifest_switch.specs.Slots.{file_of, IsClosedGate}
 use Rattle.manifest_switch.specs.Steps.{Keeps, Opens, Switches}
 use Rattle.manifest_switch.proofs.CodecLemmas.{says}
 use Rattle.manifest_switch.proofs.SlotLemmas.{keeps_trans, keeps_stays}
@@ -14,7 +14,7 @@ write_body-requires g c = λ x now.
     let mid = c.close_gate.new.disk in
     let tells = g.met.D.Disk.told mid x now in
     let is_body = says c.deref.result.now c.args.next.now c.spelling_is_read.ensures c.requires.fits (c.deref.ensures.value ∙ c.in_ok-body.ensures) in
-    subst (λ (l : List ℕ). IsClosed l) (sym (c.in_ok-close_gate.ensures.synced x now (file_of s)))
+    subst (λ (l : List ℕ). IsClosedGate l) (sym (c.in_ok-close_gate.ensures.synced x now (file_of s)))
     (is_shut s c.args.next.now c.deref.result.now is_body (D.seen c.args.disk.now) (D.seen mid) (D.seen mid) (D.seen mid) (c.in_ok-close_gate.ensures.reads tells))
 
 pub returns-in_err-write_body-clause-any_moment : goal.returns-in_err-write_body-clause-any_moment

@@ -4,7 +4,7 @@ use Rattle.graph_words.specs.declared.types.LabelId.{LabelId}
 use Rattle.graph_words.specs.declared.types.PairRule.{PairRule}
 use Rattle.graph_words.specs.declared.types.Rule.{Rule}
 use Rattle.normal_form.specs.Empty.{HasFresh}
-use Rattle.normal_form.specs.Joins.{IsTable}
+use Rattle.normal_form.specs.Joins.{IsJoinTable}
 use Rattle.normal_form.specs.Parts.{AreParts}
 use Rattle.normal_law.specs.NormalForm.{fresh_words}
 use Rattle.normal_law.proofs.PairLemmas.{pairs_first, pairs_left}
@@ -38,8 +38,8 @@ invariant_of-result c =
     let copied = c.rules-rules.ensures.value ∙ sym c.in_ok-copy.ensures in
     let labels : 1000 + c.len.result ≡ 1000 + length c.in_ok-lists.lists.fresh.items = omega arith in
     let table =
-    subst (λ (p : List PairRule). IsTable p rows joins) (c.deref.ensures.value ∙ c.in_ok-lists.ensures.pairs)
-    (subst (λ (r : List (List LabelId)). IsTable c.deref.result.now r joins) c.deref-2.ensures.value c.in_ok-joins.ensures) in
+    subst (λ (p : List PairRule). IsJoinTable p rows joins) (c.deref.ensures.value ∙ c.in_ok-lists.ensures.pairs)
+    (subst (λ (r : List (List LabelId)). IsJoinTable c.deref.result.now r joins) c.deref-2.ensures.value c.in_ok-joins.ensures) in
     let words = subst (λ (w : List (List LabelId)). HasFresh found w (length w) empties) (c.deref-3.ensures.value ∙ c.in_ok-lists.ensures.fresh) c.in_ok-empties.ensures in
     subst (λ (r : List Rule). AreParts r c.in_ok-named_labels.field-0.items fresh rows joins empties) copied
     (record {

@@ -1,6 +1,6 @@
 use Rattle.std.proofs.Common.{◌≡◌, ◌≢◌, ◌<◌, ◌≤◌, ◌+◌, ◌-◌, ℕ, List, [], ◌++◌, length, get_or, take, drop, refl, sym, ap, subst, ◌∙◌, arith, inl, inr, length-take}
 use Rattle.std.specs.Prelude.{Bool, true, false, Ok, Err, IsTrue, Result, Option, Some, None}
-use Rattle.io_edge.specs.Devices.{Gives}
+use Rattle.io_edge.specs.Devices.{GivesBytes}
 use Rattle.disk_model.specs.Disk.{Contents}
 use Rattle.open_store.specs.Answers.{DiffersFirst}
 use Rattle.io_edge.proofs.DeviceLemmas.{keeps_same, keeps_then}
@@ -38,7 +38,7 @@ returns-then-place-len-clause-same g c = λ is text told tells.
     let len = c.args.len in
     let file = D.seen c.args.disk.now c.args.file in
     let name = c.args.name.now in
-    let gives : (text : List ℕ) → I.told c.args.inputs.now name ≡ Some text → Gives text place c.next_piece.new.piece.items c.in_ok-n.n = λ text told. c.in_ok-n.ensures.bytes text ((λ k. inv.keeps.kept k name) ∙ told) in
+    let gives : (text : List ℕ) → I.told c.args.inputs.now name ≡ Some text → GivesBytes text place c.next_piece.new.piece.items c.in_ok-n.n = λ text told. c.in_ok-n.ensures.bytes text ((λ k. inv.keeps.kept k name) ∙ told) in
     let none = c.behind.ensures.none (ok_is _ _ is) in
     same_whole text file place len (inv.same text told tells) (text_ended text place c.next_piece.new.piece.items c.in_ok-n.n (omega (arith, c.next_piece.ensures.piece)) none (gives text told)) c.if-place-len.true
 
@@ -51,7 +51,7 @@ returns-then-place-len-clause-differ g c = λ p is text told tells.
     let len = c.args.len in
     let file = D.seen c.args.disk.now c.args.file in
     let name = c.args.name.now in
-    let gives : (text : List ℕ) → I.told c.args.inputs.now name ≡ Some text → Gives text place c.next_piece.new.piece.items c.in_ok-n.n = λ text told. c.in_ok-n.ensures.bytes text ((λ k. inv.keeps.kept k name) ∙ told) in
+    let gives : (text : List ℕ) → I.told c.args.inputs.now name ≡ Some text → GivesBytes text place c.next_piece.new.piece.items c.in_ok-n.n = λ text told. c.in_ok-n.ensures.bytes text ((λ k. inv.keeps.kept k name) ∙ told) in
     let some = c.behind.ensures.some p (ok_is _ _ is) in
     subst (DiffersFirst text (take len file)) (sym some.0) (copy_is_shorter text file place len (inv.same text told tells) (omega (arith, (gives text told).within, some.1)) c.if-place-len.true)
 
@@ -67,7 +67,7 @@ returns-then-n-eq0-clause-differ g c = λ p is text told tells.
     let len = c.args.len in
     let file = D.seen c.args.disk.now c.args.file in
     let name = c.args.name.now in
-    let gives : (text : List ℕ) → I.told c.args.inputs.now name ≡ Some text → Gives text place c.next_piece.new.piece.items c.in_ok-n.n = λ text told. c.in_ok-n.ensures.bytes text ((λ k. inv.keeps.kept k name) ∙ told) in
+    let gives : (text : List ℕ) → I.told c.args.inputs.now name ≡ Some text → GivesBytes text place c.next_piece.new.piece.items c.in_ok-n.n = λ text told. c.in_ok-n.ensures.bytes text ((λ k. inv.keeps.kept k name) ∙ told) in
     let at : place ≡ p = some_is place p (ok_is _ _ is) in
     subst (DiffersFirst text (take len file)) at
     (text_is_shorter text file place len (inv.same text told tells) (text_ended text place c.next_piece.new.piece.items c.in_ok-n.n (omega (arith, c.next_piece.ensures.piece)) c.if-n-eq0.true (gives text told)) (omega (arith, inv.place, c.if-place-len.false)) (c.requires.long tells))
@@ -90,7 +90,7 @@ returns-then-differ-clause-differ g c = λ p is text told tells.
     let len = c.args.len in
     let file = D.seen c.args.disk.now c.args.file in
     let name = c.args.name.now in
-    let gives : (text : List ℕ) → I.told c.args.inputs.now name ≡ Some text → Gives text place c.next_piece.new.piece.items c.in_ok-n.n = λ text told. c.in_ok-n.ensures.bytes text ((λ k. inv.keeps.kept k name) ∙ told) in
+    let gives : (text : List ℕ) → I.told c.args.inputs.now name ≡ Some text → GivesBytes text place c.next_piece.new.piece.items c.in_ok-n.n = λ text told. c.in_ok-n.ensures.bytes text ((λ k. inv.keeps.kept k name) ∙ told) in
     let n = c.in_ok-n.n in
     let same = c.in_ok-same.same in
     let piece = c.next_piece.new.piece.items in
@@ -120,7 +120,7 @@ loop-copy-preserved g c =
     let len = c.args.len in
     let file = D.seen c.args.disk.now c.args.file in
     let name = c.args.name.now in
-    let gives : (text : List ℕ) → I.told c.args.inputs.now name ≡ Some text → Gives text place c.next_piece.new.piece.items c.in_ok-n.n = λ text told. c.in_ok-n.ensures.bytes text ((λ k. inv.keeps.kept k name) ∙ told) in
+    let gives : (text : List ℕ) → I.told c.args.inputs.now name ≡ Some text → GivesBytes text place c.next_piece.new.piece.items c.in_ok-n.n = λ text told. c.in_ok-n.ensures.bytes text ((λ k. inv.keeps.kept k name) ∙ told) in
     let n = c.in_ok-n.n in
     let same = c.in_ok-same.same in
     let piece = c.next_piece.new.piece.items in

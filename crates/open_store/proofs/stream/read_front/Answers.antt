@@ -2,7 +2,7 @@ use Rattle.std.proofs.Common.{◌≡◌, ◌≤◌, ◌<◌, ℕ, List, ◌++◌
 use Rattle.std.specs.Prelude.{Result, Ok, Err, IfOk}
 use Rattle.std.proofs.lemmas.Bool.{cases_lt}
 use Rattle.std.proofs.lemmas.List.{take-append-le, get_or-take, get_or_past}
-use Rattle.disk_model.specs.Disk.{Reads}
+use Rattle.disk_model.specs.Disk.{ReadsBytes}
 use Rattle.disk_model.specs.Run.{if_ok}
 use Rattle.partition_file.specs.Spelling.{IsBytes}
 use Rattle.open_store.proofs.stream.read_front.Goals as goal

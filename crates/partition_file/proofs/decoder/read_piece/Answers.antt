@@ -1,6 +1,6 @@
 use Rattle.std.proofs.Common.{◌<◌, length, take, ◌∙◌, arith}
 use Rattle.partition_file.specs.declared.types.RowStep.TheVariants as steps
-use Rattle.partition_file.specs.Reader.{Gives, Uses}
+use Rattle.partition_file.specs.Reader.{GivesStep, Uses}
 use Rattle.partition_file.proofs.PieceLemmas.{step_edge, step_fault}
 use Rattle.partition_file.proofs.decoder.read_piece.Goals as goal
 
@@ -10,7 +10,7 @@ edges-preserved c =
     let new = c.next-used.new.self in
     let used = c.next-used.result.0 in
     let rest = c.edges.rest.now in
-    let gives : Gives old new (take used rest) (steps.Edge c.in-Edge.born) = rw c.in-Edge.is at c.next-used.ensures.step in
+    let gives : GivesStep old new (take used rest) (steps.Edge c.in-Edge.born) = rw c.in-Edge.is at c.next-used.ensures.step in
     let uses : Uses (length rest) used (steps.Edge c.in-Edge.born) = rw c.in-Edge.is at c.next-used.ensures.used in
     let some : 0 < used = uses.0 in
     record {
@@ -25,5 +25,5 @@ returns-in-Fault-clause-reads c =
     let new = c.next-used.new.self in
     let used = c.next-used.result.0 in
     let rest = c.edges.rest.now in
-    let gives : Gives old new (take used rest) (steps.Fault c.in-Fault.fault) = rw c.in-Fault.is at c.next-used.ensures.step in
+    let gives : GivesStep old new (take used rest) (steps.Fault c.in-Fault.fault) = rw c.in-Fault.is at c.next-used.ensures.step in
     λ more. c.edges.invariant.gives more ∙ step_fault old new c.edges.edges.items c.in-Fault.fault rest used more gives

@@ -1,6 +1,6 @@
 use Rattle.faults.specs.Counts.{Rose}
 use Rattle.faults.specs.Reasons.{HasReason}
-use Rattle.query_text.specs.Answered.{IsBlamed, IsPrinted, first_asked, print_causes, wanted, why_not_printed}
+use Rattle.query_text.specs.Answered.{IsBlamed, ArePartsPrinted, first_asked, print_causes, wanted, why_not_printed}
 use Rattle.query_text.specs.Text.{answers_text}
 use Rattle.query_text.proofs.Listed.{answers_counted, answers_listed, at_asked}
 use Rattle.query_text.proofs.edge_lines.answers.Goals as goal
@@ -14,7 +14,7 @@ returns-clause-listed g c = λ t parts listed.
     let seen = D.seen c.args.disk.now in
     let at = c.partitions_of-first in
     let read = c.show_parts.ensures.printed.0 in
-    let printed = at_asked (λ f w. IsPrinted s D.tells seen f w (answers_text c.args.label from c.args.to) (told c.args.sink.now) (told c.show_parts.new.sink) c.show_parts.result read) at.result.0 at.result.1 (first_asked s from) (wanted s from) at.ensures.first at.ensures.end c.show_parts.ensures.printed.1 in
+    let printed = at_asked (λ f w. ArePartsPrinted s D.tells seen f w (answers_text c.args.label from c.args.to) (told c.args.sink.now) (told c.show_parts.new.sink) c.show_parts.result read) at.result.0 at.result.1 (first_asked s from) (wanted s from) at.ensures.first at.ensures.end c.show_parts.ensures.printed.1 in
     answers_listed s at.ensures.open D.tells t seen parts listed c.args.label c.args.to from (told c.args.sink.now) (told c.show_parts.new.sink) c.show_parts.result read printed
 
 pub returns-clause-number : goal.returns-clause-number
@@ -26,7 +26,7 @@ returns-clause-number g c = λ t parts listed.
     let seen = D.seen c.args.disk.now in
     let at = c.partitions_of-first in
     let read = c.show_parts.ensures.printed.0 in
-    let printed = at_asked (λ f w. IsPrinted s D.tells seen f w (answers_text c.args.label from c.args.to) (told c.args.sink.now) (told c.show_parts.new.sink) c.show_parts.result read) at.result.0 at.result.1 (first_asked s from) (wanted s from) at.ensures.first at.ensures.end c.show_parts.ensures.printed.1 in
+    let printed = at_asked (λ f w. ArePartsPrinted s D.tells seen f w (answers_text c.args.label from c.args.to) (told c.args.sink.now) (told c.show_parts.new.sink) c.show_parts.result read) at.result.0 at.result.1 (first_asked s from) (wanted s from) at.ensures.first at.ensures.end c.show_parts.ensures.printed.1 in
     answers_counted s at.ensures.open D.tells t seen parts listed c.args.label c.args.to from (told c.args.sink.now) (told c.show_parts.new.sink) c.show_parts.result read printed c.show_parts.ensures.printed.2
 
 pub returns-clause-cause : goal.returns-clause-cause

@@ -2,7 +2,7 @@ use Rattle.std.proofs.Common.{◌≡◌, ◌+◌, ℕ, length, refl, arith}
 use Rattle.std.specs.Prelude.{Err, Ok}
 use Rattle.faults.specs.Counts.{Rose}
 use Rattle.faults.specs.Reasons.{HasReason}
-use Rattle.query_text.specs.Answered.{IsBlamed, IsPrinted, print_causes, why_not_printed}
+use Rattle.query_text.specs.Answered.{IsBlamed, ArePartsPrinted, print_causes, why_not_printed}
 use Rattle.query_text.specs.Text.{dump_text}
 use Rattle.query_text.specs.declared.show.Show.TheVariants.{Named}
 use Rattle.query_text.proofs.Listed.{at_asked, ends_many, listed_all}
@@ -19,7 +19,7 @@ returns-in_err-show_parts-clause-listed g c = λ t parts listed.
     let f = c.in_err-show_parts.field-0.0 in
     let all : c.len-end.result ≡ 0 + length s.manifest.parts = omega (arith, c.len-end.ensures.len, ends_many s o c.intervals.result.now c.intervals.ensures.intervals) in
     let e = c.in_err-show_parts.ensures.printed in
-    let printed = at_asked (λ a w. IsPrinted {T = ℕ} s D.tells seen a w (dump_text s.manifest.labels) (told c.args.sink.now) (told c.show_parts.new.sink) (Err f) e.0) 0 c.len-end.result 0 (length s.manifest.parts) refl all e.1 in
+    let printed = at_asked (λ a w. ArePartsPrinted {T = ℕ} s D.tells seen a w (dump_text s.manifest.labels) (told c.args.sink.now) (told c.show_parts.new.sink) (Err f) e.0) 0 c.len-end.result 0 (length s.manifest.parts) refl all e.1 in
     rw (handed_on (Unit {0}) c.from_residual.result f c.from_residual.ensures.1)
     (listed_all s o D.tells t seen parts listed {T = ℕ} (dump_text s.manifest.labels) (told c.args.sink.now) (told c.show_parts.new.sink) (Err f) e.0 (shown_text-append Named s.manifest.labels) printed)
 
@@ -49,5 +49,5 @@ returns-clause-listed g c = λ t parts listed.
     let n = c.in_ok-show_parts.field-0 in
     let all : c.len-end.result ≡ 0 + length s.manifest.parts = omega (arith, c.len-end.ensures.len, ends_many s o c.intervals.result.now c.intervals.ensures.intervals) in
     let e = c.in_ok-show_parts.ensures.printed in
-    let printed = at_asked (λ a w. IsPrinted {T = ℕ} s D.tells seen a w (dump_text s.manifest.labels) (told c.args.sink.now) (told c.show_parts.new.sink) (Ok n) e.0) 0 c.len-end.result 0 (length s.manifest.parts) refl all e.1 in
+    let printed = at_asked (λ a w. ArePartsPrinted {T = ℕ} s D.tells seen a w (dump_text s.manifest.labels) (told c.args.sink.now) (told c.show_parts.new.sink) (Ok n) e.0) 0 c.len-end.result 0 (length s.manifest.parts) refl all e.1 in
     listed_all s o D.tells t seen parts listed {T = ℕ} (dump_text s.manifest.labels) (told c.args.sink.now) (told c.show_parts.new.sink) (Ok n) e.0 (shown_text-append Named s.manifest.labels) printed

@@ -1,6 +1,6 @@
 use Rattle.std.proofs.Common.{◌+◌, ◌<◌, ℕ, [], length, slice_index, subst, arith, inl, inr}
 use Rattle.normal_law.specs.NormalForm.{normal_form}
-use Rattle.row_table.specs.Chains.{IsNext}
+use Rattle.row_table.specs.Chains.{IsNextOfRow}
 use Rattle.row_table.proofs.RowLemmas.{some_born}
 use Rattle.row_table.proofs.BlockLemmas.{row_labels_of}
 use Rattle.row_table.proofs.ThroughLemmas.{between_more, between_none, newer_labels, source_gives}
@@ -30,8 +30,8 @@ pub loop-place-preserved : goal.loop-place-preserved
 loop-place-preserved c =
     let edges = c.args.centre.now.rows.now.edges in
     let there : c.loop-place.place < length edges = rw c.len-count.ensures.len at c.loop-place-test.true in
-    let next : IsNext edges c.args.centre.now.vertex.0 (c.loop-place.place + 1) (slice_index c.args.centre.now.next.now c.loop-place.place) =
-    subst (λ (v : ℕ). IsNext edges v (c.loop-place.place + 1) (slice_index c.args.centre.now.next.now c.loop-place.place)) (c.loop-place.invariant.0.here some_born there) (c.requires.links.each c.loop-place.place some_born (omega arith) there) in (
+    let next : IsNextOfRow edges c.args.centre.now.vertex.0 (c.loop-place.place + 1) (slice_index c.args.centre.now.next.now c.loop-place.place) =
+    subst (λ (v : ℕ). IsNextOfRow edges v (c.loop-place.place + 1) (slice_index c.args.centre.now.next.now c.loop-place.place)) (c.loop-place.invariant.0.here some_born there) (c.requires.links.each c.loop-place.place some_born (omega arith) there) in (
       walk_more edges c.args.centre.now.vertex c.args.place c.loop-place.place c.loop-place.invariant.0 _ there (rw c.edges-edges.ensures at c.if-edges-place.true) next,
       between_more (normal_form c.args.centre.now.normal.now) c.args.centre.now.since c.args.centre.now.vertex c.args.centre.now.row.now c.args.centre.now.newer.now edges c.args.place c.loop-place.place _ [] c.loop-place.blocks.items _ c.loop-place.invariant.0.on next c.loop-place.invariant.1 (rw c.edges-edges.ensures at c.in_ok-add_in_edge.ensures),
     )

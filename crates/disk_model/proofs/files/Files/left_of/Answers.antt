@@ -4,8 +4,8 @@ use Rattle.std.specs.List.{position_or_len}
 use Rattle.disk_model.specs.Calls.{FileState, synced}
 use Rattle.disk_model.specs.Memory.{bytes_at, file_state, is_of}
 use Rattle.disk_model.specs.MemDisk.{start_in, record_in, states_in}
-use Rattle.disk_model.specs.Sound.{IsSound, sound_started}
-use Rattle.disk_model.specs.Left.{IsLeft}
+use Rattle.disk_model.specs.Sound.{IsSoundFile, sound_started}
+use Rattle.disk_model.specs.Left.{CrashLeaves}
 use Rattle.disk_model.specs.Run.{if_ok}
 use Rattle.disk_model.specs.declared.files.Files.{Files}
 use Rattle.disk_model.specs.declared.loose.Loose.{Loose}
@@ -34,7 +34,7 @@ left-requires c =
     let place : c.place_of-place.result ≡ position_or_len (is_of file) me.loose.items = c.place_of-place.ensures ∙ ap (λ (l : List Loose). position_or_len (is_of file) l) c.deref.ensures.value in
     let low : c.place_of-place.result < length me.loose.items = omega (arith, c.if-place-len.true, c.len.ensures) in
     let seen = seen_is me file c.index-seen.result.now c.deref-then-place-len.result.now c.requires c.index-seen.ensures c.deref-then-place-len.ensures.value in
-    subst (λ (t : FileState). IsSound t) (sym (changed me file c.place_of-place.result c.index.result.now c.deref-then-place-len.result.now seen place low c.index.ensures)) (sound_started (start_in me) (record_in me) file)
+    subst (λ (t : FileState). IsSoundFile t) (sym (changed me file c.place_of-place.result c.index.result.now c.deref-then-place-len.result.now seen place low c.index.ensures)) (sound_started (start_in me) (record_in me) file)
 
 pub returns-then-place-len : goal.returns-then-place-len
 returns-then-place-len c =
@@ -43,7 +43,7 @@ returns-then-place-len c =
     let place : c.place_of-place.result ≡ position_or_len (is_of file) me.loose.items = c.place_of-place.ensures ∙ ap (λ (l : List Loose). position_or_len (is_of file) l) c.deref.ensures.value in
     let low : c.place_of-place.result < length me.loose.items = omega (arith, c.if-place-len.true, c.len.ensures) in
     let seen = seen_is me file c.index-seen.result.now c.deref-then-place-len.result.now c.requires c.index-seen.ensures c.deref-then-place-len.ensures.value in
-    subst (λ (t : FileState). IfOk c.left.result (λ (v : Vec ℕ Global). IsLeft c.args.choice t v.items)) (changed me file c.place_of-place.result c.index.result.now c.deref-then-place-len.result.now seen place low c.index.ensures) c.left.ensures
+    subst (λ (t : FileState). IfOk c.left.result (λ (v : Vec ℕ Global). CrashLeaves c.args.choice t v.items)) (changed me file c.place_of-place.result c.index.result.now c.deref-then-place-len.result.now seen place low c.index.ensures) c.left.ensures
 
 pub returns : goal.returns
 returns c =
@@ -53,5 +53,5 @@ returns c =
     let place : c.place_of-place.result ≡ position_or_len (is_of file) me.loose.items = c.place_of-place.ensures ∙ ap (λ (l : List Loose). position_or_len (is_of file) l) c.deref.ensures.value in
     let past : length me.loose.items ≤ position_or_len (is_of file) me.loose.items = omega (arith, place, c.if-place-len.false, c.len.ensures) in
     let seen = seen_is me file c.index-seen.result.now now c.requires c.index-seen.ensures c.deref-2.ensures.value in
-    let here : IsLeft c.args.choice (states_in me file) now = subst (λ (t : FileState). IsLeft c.args.choice t now) (unchanged me file now seen past) (left_synced c.args.choice now) in
-    if_ok (λ (v : Vec ℕ Global). v.items ≡ now) _ c.copy.result (λ v is. subst (λ (l : List ℕ). IsLeft c.args.choice (states_in me file) l) (sym is) here) c.copy.ensures
+    let here : CrashLeaves c.args.choice (states_in me file) now = subst (λ (t : FileState). CrashLeaves c.args.choice t now) (unchanged me file now seen past) (left_synced c.args.choice now) in
+    if_ok (λ (v : Vec ℕ Global). v.items ≡ now) _ c.copy.result (λ v is. subst (λ (l : List ℕ). CrashLeaves c.args.choice (states_in me file) l) (sym is) here) c.copy.ensures

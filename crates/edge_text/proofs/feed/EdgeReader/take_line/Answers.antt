@@ -1,5 +1,5 @@
 use Rattle.std.proofs.Common.{◌≡◌, ◌+◌, ◌++◌, ap, sym, ◌∙◌, take, subst, Some}
-use Rattle.io_edge.specs.Cuts.{Cutting, Feeds, GoesOn, EndsLine}
+use Rattle.io_edge.specs.Cuts.{Cutting, FeedsCutting, CuttingGoesOn, EndsLine}
 use Rattle.io_edge.specs.declared.step.CutStep.{CutStep}
 use Rattle.faults.specs.declared.kinds.InputKind.TheVariants.{LineTooLong}
 use Rattle.io_edge.proofs.PieceLemmas.{refused_from}
@@ -14,7 +14,7 @@ returns-in-More-clause-adds c = subst (λ (r : EdgeFeed). AddsEdges 1 c.args.edg
 pub returns-in-More-clause-ok : goal.returns-in-More-clause-ok
 returns-in-More-clause-ok c =
     λ start names text front f.
-    let g : GoesOn c.self.inside.cutter c.args.rest.now c.feed-fed.result.used c.feed-fed.new.self = subst (λ (s : CutStep). Feeds s c.self.inside.cutter c.args.rest.now c.feed-fed.result.used c.feed-fed.new.self) c.in-More.is c.feed-fed.ensures in
+    let g : CuttingGoesOn c.self.inside.cutter c.args.rest.now c.feed-fed.result.used c.feed-fed.new.self = subst (λ (s : CutStep). FeedsCutting s c.self.inside.cutter c.args.rest.now c.feed-fed.result.used c.feed-fed.new.self) c.in-More.is c.feed-fed.ensures in
     feeds_whole start names text c.args.rest.now c.self.inside.number c.self.inside.place c.feed-fed.result.used (front ++ c.args.edges.now.items) c.self.inside.table c.self.inside.cutter c.feed-fed.new.self (fed_as start names text c.args.rest.now (front ++ c.args.edges.now.items) _ _ (sym c.self.view_is) f) g
 
 pub returns-in-LineTooLong-clause-fault : goal.returns-in-LineTooLong-clause-fault
@@ -32,7 +32,7 @@ returns-in-LineTooLong-clause-fault c =
 pub returns-in-Ok-clause-ok : goal.returns-in-Ok-clause-ok
 returns-in-Ok-clause-ok c =
     λ start names text front f.
-    let e : EndsLine c.self.inside.cutter c.args.rest.now c.feed-fed.result.used c.feed-fed.new.self = subst (λ (s : CutStep). Feeds s c.self.inside.cutter c.args.rest.now c.feed-fed.result.used c.feed-fed.new.self) c.in-Line.is c.feed-fed.ensures in
+    let e : EndsLine c.self.inside.cutter c.args.rest.now c.feed-fed.result.used c.feed-fed.new.self = subst (λ (s : CutStep). FeedsCutting s c.self.inside.cutter c.args.rest.now c.feed-fed.result.used c.feed-fed.new.self) c.in-Line.is c.feed-fed.ensures in
     let is = sym (ap (λ (s : Cutting). s.last) e.state) ∙ sym c.line.ensures in
     feeds_line start names text c.args.rest.now c.self.inside.number c.self.inside.place c.feed-fed.result.used (front ++ c.args.edges.now.items) _ c.self.inside.table _ c.self.inside.cutter c.feed-fed.new.self
     (fed_as start names text c.args.rest.now (front ++ c.args.edges.now.items) _ _ (sym c.self.view_is) f) e
@@ -42,7 +42,7 @@ pub returns-in-Err-clause-fault : goal.returns-in-Err-clause-fault
 returns-in-Err-clause-fault c =
     λ line kind told start names text front f later.
     let what = line_fault_is (c.self.inside.number + 1) c.in-Err.fault line kind (sym c.fault_at.ensures ∙ told) in
-    let e : EndsLine c.self.inside.cutter c.args.rest.now c.feed-fed.result.used c.feed-fed.new.self = subst (λ (s : CutStep). Feeds s c.self.inside.cutter c.args.rest.now c.feed-fed.result.used c.feed-fed.new.self) c.in-Line.is c.feed-fed.ensures in
+    let e : EndsLine c.self.inside.cutter c.args.rest.now c.feed-fed.result.used c.feed-fed.new.self = subst (λ (s : CutStep). FeedsCutting s c.self.inside.cutter c.args.rest.now c.feed-fed.result.used c.feed-fed.new.self) c.in-Line.is c.feed-fed.ensures in
     let is = sym (ap (λ (s : Cutting). s.last) e.state) ∙ sym c.line.ensures in
     feeds_fault start names text c.args.rest.now c.self.inside.number c.self.inside.place c.feed-fed.result.used (front ++ c.args.edges.now.items) c.self.inside.table c.self.inside.cutter c.feed-fed.new.self kind
     (fed_as start names text c.args.rest.now (front ++ c.args.edges.now.items) _ _ (sym c.self.view_is) f) e

@@ -3,7 +3,7 @@ use Rattle.std.specs.Prelude.{Contains, map}
 use Rattle.std.proofs.lemmas.Result.{on_ok_weaker}
 use Rattle.graph_words.specs.declared.types.LabelId.{LabelId}
 use Rattle.normal_form.specs.declared.joins.Join.{Join}
-use Rattle.normal_form.specs.Rows.{IsAscending, PartsAt, AddsLabels}
+use Rattle.normal_form.specs.Rows.{AreLabelsAscending, PartsLabelsAt, AddsLabels}
 use Rattle.normal_form.specs.Joins.{second_of, AddsJoins}
 use Rattle.normal_form.proofs.RowLemmas.{not_from_false}
 use Rattle.normal_form.proofs.JoinLemmas.{second_stays, second_within, second_is, second_put_in, AddsJoins-set, AddsJoins-insert}
@@ -16,7 +16,7 @@ pub returns-then-is_second_at : goal.returns-then-is_second_at
 returns-then-is_second_at c =
     let joins = c.self.inside.joins.items in
     let place = c.place_of_second-place.result in
-    let parts = subst (λ (l : List Join). PartsAt (map second_of l) c.args.second place) c.deref.ensures.value c.place_of_second-place.ensures in
+    let parts = subst (λ (l : List Join). PartsLabelsAt (map second_of l) c.args.second place) c.deref.ensures.value c.place_of_second-place.ensures in
     let there = subst (λ (l : List Join). Contains (map second_of l) c.args.second) c.deref-2.ensures.value (c.is_second_at.ensures.0 c.if-is_second_at.true) in
     let within = second_within joins c.args.second c.self.invariant place parts there in
     let same = second_is joins c.args.second c.self.invariant place parts c.index_mut.result.now there c.index_mut.ensures.value in
@@ -29,9 +29,9 @@ pub invariant_of-self-2 : goal.invariant_of-self-2
 invariant_of-self-2 c =
     let joins = c.self.inside.joins.items in
     let place = c.place_of_second-place.result in
-    let parts = subst (λ (l : List Join). PartsAt (map second_of l) c.args.second place) c.deref.ensures.value c.place_of_second-place.ensures in
+    let parts = subst (λ (l : List Join). PartsLabelsAt (map second_of l) c.args.second place) c.deref.ensures.value c.place_of_second-place.ensures in
     let none = λ (m : Contains (map second_of joins) c.args.second). not_from_false (Contains (map second_of c.deref-2.result.now) c.args.second) c.is_second_at.result c.is_second_at.ensures c.if-is_second_at.false (subst (λ (l : List Join). Contains (map second_of l) c.args.second) (sym c.deref-2.ensures.value) m) in
-    subst (λ (l : List Join). IsAscending (map second_of l)) (sym c.in_ok-insert.ensures.items) (second_put_in joins c.args.second c.self.invariant place parts _ refl none)
+    subst (λ (l : List Join). AreLabelsAscending (map second_of l)) (sym c.in_ok-insert.ensures.items) (second_put_in joins c.args.second c.self.invariant place parts _ refl none)
 
 pub returns : goal.returns
 returns c =

@@ -8,7 +8,7 @@ use Rattle.partition_file.specs.declared.types.Expect.{Expect}
 use Rattle.partition_file.specs.Spelling.{first_break}
 use Rattle.store_law.specs.Listed.{part_file}
 use Rattle.open_store.specs.Store.{OpenStore, expect_in}
-use Rattle.open_store.specs.Stream.{HasEnded, IsAt, IsTally}
+use Rattle.open_store.specs.Stream.{StreamEnds, IsAt, IsTally}
 use Rattle.open_store.specs.PartRead.{IsRefused, IsTold, count_below_of}
 use Rattle.open_store.proofs.Causes.{handed, handed_other}
 use Rattle.disk_model.proofs.Looks.{looks_then}
@@ -128,7 +128,7 @@ returns-in_err-check-clause-cause g c =
     let at = subst (λ (l : List Born). IsAt (expect_in s j) D.tells file inv.at.0 l c.loop-tally.stream) (all_given given c.loop-tally.edges.items inv.none) inv.at.2 in
     let no = c.in_ok-next.was ∙ ap (λ (b : Bool). Ok b) c.if-branch.false in
     let end = c.next.ensures.end no (expect_in s j) file inv.at.0 given same at in
-    let ended = subst (λ (l : List Born). HasEnded (expect_in s j) D.tells file inv.at.0 l) (sym (all_given given c.loop-tally.edges.items inv.none)) end.0 in
+    let ended = subst (λ (l : List Born). StreamEnds (expect_in s j) D.tells file inv.at.0 l) (sym (all_given given c.loop-tally.edges.items inv.none)) end.0 in
     handed_other (D.faults c.args.disk.now) (D.faults c.next.new.disk) _ _ c.check.result c.from_residual-in_err-check.result c.in_err-check.field-0.0 c.in_err-check.was c.from_residual-in_err-check.ensures.1
     (λ f p k blamed. (
       blamed.0,
@@ -149,5 +149,5 @@ returns-clause-count g c =
     let at = subst (λ (l : List Born). IsAt (expect_in s j) D.tells file inv.at.0 l c.loop-tally.stream) (all_given given c.loop-tally.edges.items inv.none) inv.at.2 in
     let no = c.in_ok-next.was ∙ ap (λ (b : Bool). Ok b) c.if-branch.false in
     let end = c.next.ensures.end no (expect_in s j) file inv.at.0 given same at in
-    let ended = subst (λ (l : List Born). HasEnded (expect_in s j) D.tells file inv.at.0 l) (sym (all_given given c.loop-tally.edges.items inv.none)) end.0 in
+    let ended = subst (λ (l : List Born). StreamEnds (expect_in s j) D.tells file inv.at.0 l) (sym (all_given given c.loop-tally.edges.items inv.none)) end.0 in
     (given, ended_is_read s j D.tells file inv.at.0 given c.stream.ensures.bounds ended (c.in_ok-check.ensures.told given inv.at.3), inv.at.4)

@@ -8,7 +8,7 @@ use Rattle.open_store.specs.Store.{OpenStore, expect_in}
 use Rattle.open_store.specs.Stream.{IsAt}
 use Rattle.graph_words.specs.declared.types.Born.{Born}
 use Rattle.faults.specs.declared.form_kind.FormKind.{FormKind}
-use Rattle.open_store.specs.Stream.{HasEnded, IsTally}
+use Rattle.open_store.specs.Stream.{StreamEnds, IsTally}
 use Rattle.open_store.specs.PartRead.{IsRefused, IsTold}
 use Rattle.open_store.proofs.Causes.{handed, handed_other}
 use Rattle.disk_model.proofs.Looks.{looks_then}
