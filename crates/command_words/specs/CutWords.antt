@@ -104,7 +104,7 @@ kind_said (variants.Joined name value) = joined name.now value.now
 kind_said (variants.Alone name) = alone name.now
 
 -- an option as the code has it
-abbrev pub given_said : givens.GivenOption → GivenOption
+abbrev pub given_said : givens.Given → GivenOption
 given_said o = given o.name.now o.value.now
 
 abbrev pub next_said : nexts.Next → Next
