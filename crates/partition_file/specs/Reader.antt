@@ -1,15 +1,18 @@
 -- A reader of a partition file that comes in pieces.
-use Rattle.std.specs.Prelude.{◌≡◌, ℕ, ◌+◌, ◌<◌, ◌≤◌, false, List, [], ◌++◌, length, Option, Some, None, ◌⊎◌}
+use Rattle.std.specs.Prelude.{◌≡◌, ℕ, ◌+◌, ◌<◌, ◌≤◌, List, [], ◌++◌, length, drop, Option, Some, None, Result, Ok, Err, ◌⊎◌}
+use Rattle.group_number.specs.declared.reading.GroupRead.{GroupRead}
+use Rattle.group_number.specs.declared.reading.GroupRead.TheVariants as numbers
 use Rattle.graph_words.specs.declared.types.Born.{Born}
-use Rattle.faults.specs.declared.form_kind.FormKind.TheVariants.{Short}
+use Rattle.faults.specs.declared.form_kind.FormKind.TheVariants.{Short, BadNumber}
 use Rattle.partition_file.specs.declared.types.Expect.{Expect}
 use Rattle.partition_file.specs.declared.types.PartFault.{PartFault}
 use Rattle.partition_file.specs.declared.types.Stage.{Stage}
 use Rattle.partition_file.specs.declared.types.Stage.TheVariants as stages
+use Rattle.partition_file.specs.declared.types.Completed.{Completed}
 use Rattle.partition_file.specs.declared.types.RowStep.{RowStep}
 use Rattle.partition_file.specs.declared.types.RowStep.TheVariants as steps
-use Rattle.partition_file.specs.FieldsRead.{Found, complete, ends_with, stop, then_found}
-use Rattle.partition_file.specs.Stages.{stage_at, is_whole, IsStage}
+use Rattle.partition_file.specs.FieldsRead.{Found, Behind, complete, ends_with, stop, then_found}
+use Rattle.partition_file.specs.Stages.{stage_at, field_in, completed_at, IsStage, IsCompleted}
 
 -- a reader: the field that comes next, its place, and its bytes so far
 pub record Reader : Type 0 where
@@ -22,7 +25,7 @@ pub record Reader : Type 0 where
 pub record IsReader (r : Reader) : Type 0 where
   pub bounds : r.expect.lo < r.expect.hi
   pub stage : IsStage r.expect r.stage
-  pub partial : is_whole r.stage r.held ≡ false
+  pub partial : field_in r.stage r.held ≡ numbers.Short
 
 -- a reader that was given no byte
 abbrev pub start : Expect → Reader
@@ -77,3 +80,27 @@ prepend front f = record { edges = front ++ f.edges; fault = f.fault }
 abbrev pub ReadsPiece : Reader → Reader → List Born → List Born → List ℕ → Option PartFault → Type 0
 ReadsPiece old new before after piece None = (more : List ℕ) → prepend before (rest_of old (piece ++ more)) ≡ prepend after (rest_of new more)
 ReadsPiece old new before after piece (Some f) = (more : List ℕ) → prepend before (rest_of old (piece ++ more)) ≡ prepend after (ends_with f)
+
+-- what the front of some bytes gives at a place, with how many of them it is, or its fault. Nothing is said where the bytes end within it.
+abbrev pub Gives : {X : Type 0} → ((X → Behind) → Behind) → ℕ → List ℕ → Result (Option (X × ℕ)) PartFault → Type 0
+Gives read place bytes (Ok None) = Unit {0}
+Gives {X = X} read place bytes (Ok (Some (x, len))) = (0 < len) × (len ≤ length bytes)
+    × ((next : X → Behind) (rest : List ℕ) → read next place (bytes ++ rest) ≡ next x (place + len) (drop len bytes ++ rest))
+Gives {X = X} read place bytes (Err f) = (next : X → Behind) (rest : List ℕ) → read next place (bytes ++ rest) ≡ ends_with f
+
+-- what a rule that was asked leads to
+abbrev pub rule_leads : (ℕ → Behind) → Result ℕ PartFault → Behind
+rule_leads next (Ok n) = next n
+rule_leads next (Err f) = λ after rest. ends_with f
+
+-- what a number that was asked for is: none where the bytes end within it
+abbrev pub IsFront : GroupRead → ℕ → Result (Option (ℕ × ℕ)) PartFault → Type 0
+IsFront read place (Ok None) = read ≡ numbers.Short
+IsFront read place (Ok (Some (n, len))) = read ≡ numbers.Number n len
+IsFront read place (Err f) = (read ≡ numbers.Bad) × (f ≡ record { place = place; kind = BadNumber })
+
+-- what bytes of a field lead to: nothing yet, or what the whole field leads to
+abbrev pub CompletesField : Expect → Stage → ℕ → List ℕ → Option Completed → Type 0
+CompletesField e s place held None = field_in s held ≡ numbers.Short
+CompletesField e s place held (Some c) = IsCompleted e c
+    × ((rest : List ℕ) → stage_at e s place (held ++ rest) ≡ completed_at e c (place + length held) rest)

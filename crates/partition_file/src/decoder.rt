@@ -4,7 +4,7 @@ ghost use Rattle.std.specs.List.{flat_map};
 ghost use Rattle.partition_file.specs.Reader.{taken, ReadsPiece};
 ghost use Rattle.partition_file.specs.Spelling.{Part, FitsPart, SpellsPart, DecodesPart, AnswersPart};
 
-use crate::format::{COUNT_LEN, EDGE_LEN, HEAD_LEN};
+use crate::format::{HEAD_LEN, LEAST_EDGE_LEN};
 use crate::partition::Partition;
 use crate::reader::RowReader;
 use crate::types::{Expect, PartError, PartFault, RowStep};
@@ -26,8 +26,10 @@ pub fn read_piece(
 {
     let mut rest = piece;
     'edges: loop {
-        let (used, step) = reader.next(rest);
-        let (_, behind) = rest.split_at(used);
+        let whole = reader.take_rows(rest, edges)?;
+        let (_, left) = rest.split_at(whole);
+        let (used, step) = reader.next(left);
+        let (_, behind) = left.split_at(used);
         rest = behind;
         match step {
             RowStep::Edge(born) => edges.push(born)?,
@@ -63,10 +65,10 @@ pub fn read_pieces(
 
 /// How many edges so many bytes of a partition file have at most, by their length alone.
 pub fn most_edges(len: usize, expect: &Expect) -> usize
-    ensures { EDGE_LEN * result ≤ len }
+    ensures { LEAST_EDGE_LEN * result ≤ len }
 {
-    let rows = expect.hi.saturating_sub(expect.lo) as usize * COUNT_LEN;
-    len.saturating_sub(HEAD_LEN + rows) / EDGE_LEN
+    let rows = expect.hi.saturating_sub(expect.lo) as usize;
+    len.saturating_sub(HEAD_LEN + rows) / LEAST_EDGE_LEN
 }
 
 /// The edges that the bytes give.
