@@ -1,0 +1,60 @@
+ghost use Rattle.std.specs.Prelude.{◌≡◌, ◌++◌, length, OnOk};
+ghost use Rattle.group_number.specs.Groups.{group_bytes};
+
+use std::alloc::AllocError;
+
+/// Writes the number at the end, in 1 to 10 bytes.
+///
+/// # Errors
+///
+/// `AllocError` where there is no memory for the bytes. Some of them may have been written then.
+#[inline(always)]
+pub fn put_group(out: &mut Vec<u8>, number: u64) -> Result<(), AllocError>
+    ensures { OnOk result (out.new.items ≡ out.old.items ++ group_bytes number) }
+{
+    if number < 128 {
+        out.push(number as u8)?;
+        return Ok(());
+    }
+    put_groups(out, number)
+}
+
+/// The groups of a number, one after the other.
+#[inline(never)]
+fn put_groups(out: &mut Vec<u8>, number: u64) -> Result<(), AllocError>
+    ensures { OnOk result (out.new.items ≡ out.old.items ++ group_bytes number) }
+{
+    let mut rest = number;
+    while rest >= 128 {
+        out.push(128 + (rest % 128) as u8)?;
+        rest /= 128;
+    }
+    out.push(rest as u8)?;
+    Ok(())
+}
+
+/// How many bytes the number takes, from 1 to 10.
+#[inline(always)]
+pub fn group_len(number: u64) -> usize
+    ensures { result ≡ length (group_bytes number) }
+{
+    if number < 128 {
+        1
+    } else {
+        count_groups(number)
+    }
+}
+
+/// How many groups the number has.
+#[inline(never)]
+fn count_groups(number: u64) -> usize
+    ensures { result ≡ length (group_bytes number) }
+{
+    let mut count = 1;
+    let mut rest = number;
+    while rest >= 128 {
+        count += 1;
+        rest /= 128;
+    }
+    count
+}
