@@ -4,7 +4,7 @@ use Rattle.std.proofs.lemmas.Bool.{cases_lt}
 use Rattle.std.proofs.lemmas.List.{drop_all, take_all}
 use Rattle.std.proofs.lemmas.Nat.{pow-add, pow_pos, row_fits, shl_whole}
 use Rattle.std.proofs.Math.Nat.{mul_comm, mul_assoc}
-use Rattle.std.proofs.Math.Pow.{pow_mono, pow-lt}
+use Rattle.std.proofs.Math.Pow.{pow_mono}
 use Rattle.std.proofs.Math.Seq.{drop-cons}
 use Rattle.group_number.specs.declared.reading.GroupRead.{GroupRead}
 use Rattle.group_number.specs.declared.reading.GroupRead.TheVariants.{Short, Bad, Number}
@@ -163,13 +163,13 @@ behind_more first bytes number shift i h lt high byte less =
     let bits : 64 - shift - 7 ≡ 64 - (shift + 7) = omega arith in
     let place : suc i ≡ i + 1 = omega arith in
     let left = sym (behind_next number shift (i + 1) (b - 128) (groups_in (64 - shift - 7) (drop (suc i) bytes)))
-      ∙ ap (behind_groups number shift (i + 1)) (sym (at_more (64 - shift) b (drop (suc i) bytes) high (omega arith)))
-      ∙ at_place first bytes number shift i h lt in
+    ∙ ap (behind_groups number shift (i + 1)) (sym (at_more (64 - shift) b (drop (suc i) bytes) high (omega arith)))
+    ∙ at_place first bytes number shift i h lt in
     subst (λ (k : ℕ). IsBehind first bytes (number + k) (shift + 7) (i + 1)) (sym s.0) (record {
       steps = omega (arith, h.steps);
       room = s.2;
       below = s.1;
       left = ap (λ (k : ℕ). behind_groups (number + (b - 128) * 2 ^ shift) (shift + 7) (i + 1 + 1) (groups_in k (drop (i + 1) bytes))) (sym bits)
-        ∙ ap (λ (k : ℕ). behind_groups (number + (b - 128) * 2 ^ shift) (shift + 7) (i + 1 + 1) (groups_in (64 - shift - 7) (drop k bytes))) (sym place)
-        ∙ left;
+          ∙ ap (λ (k : ℕ). behind_groups (number + (b - 128) * 2 ^ shift) (shift + 7) (i + 1 + 1) (groups_in (64 - shift - 7) (drop k bytes))) (sym place)
+          ∙ left;
     })

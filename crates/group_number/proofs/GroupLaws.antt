@@ -1,12 +1,11 @@
 -- What is read is a spelling, a spelling is read again, and bytes behind a number change nothing.
-use Rattle.std.proofs.Common.{◌≡◌, ℕ, zero, suc, ◌+◌, ◌-◌, ◌*◌, ◌/◌, ◌%◌, ◌^◌, ◌<◌, ◌≤◌, Bool, true, false, List, [], ◌∷◌, ◌++◌, length, take, drop, get_or, refl, sym, ap, ◌∙◌, subst, arith, inl, inr}
-use Rattle.std.proofs.lemmas.Bool.{cases_lt, lt-ltb, le-ltb, cases_Bool}
+use Rattle.std.proofs.Common.{◌≡◌, ℕ, zero, suc, ◌+◌, ◌-◌, ◌*◌, ◌/◌, ◌%◌, ◌^◌, ◌<◌, ◌≤◌, true, false, List, [], ◌∷◌, ◌++◌, length, take, drop, refl, sym, ap, ◌∙◌, subst, arith, inl, inr}
+use Rattle.std.proofs.lemmas.Bool.{cases_lt, lt-ltb, le-ltb}
 use Rattle.std.proofs.lemmas.List.{take-append-drop, take-take}
 use Rattle.std.proofs.Math.Nat.{pow-suc}
-use Rattle.group_number.specs.declared.reading.GroupRead.{GroupRead}
-use Rattle.group_number.specs.declared.reading.GroupRead.TheVariants.{Short, Bad, Number}
+use Rattle.group_number.specs.declared.reading.GroupRead.TheVariants.{Bad, Number}
 use Rattle.group_number.specs.Groups.{IsBytes, IsGroupNumber, behind_group, groups_in, group_at, is_decided, is_whole_group, groups_of, group_bytes}
-use Rattle.group_number.proofs.Steps.{pow_seven, pow_few, at_end, at_last, at_many, at_more, Step, step, parts, behind_some, decided_behind}
+use Rattle.group_number.proofs.Steps.{pow_seven, pow_few, at_end, at_last, at_more, Step, step, parts, behind_some, decided_behind}
 
 -- ---- bytes behind
 
@@ -109,7 +108,7 @@ least bytes whole before n len e =
       | inl fewer ↦
           let most = take (length bytes - 1) bytes in
           let parts : take len bytes ++ drop len most ≡ most =
-            ap (λ (x : List ℕ). x ++ drop len most) (sym (take-take len (length bytes - 1) bytes (omega arith))) ∙ take-append-drop len most in
+          ap (λ (x : List ℕ). x ++ drop len most) (sym (take-take len (length bytes - 1) bytes (omega arith))) ∙ take-append-drop len most in
           let same = stays 64 (take len bytes) (drop len most) (ap is_decided f.alone) in
           let decided : is_whole_group most ≡ true = ap (λ (x : List ℕ). is_whole_group x) (sym parts) ∙ ap is_decided (same ∙ f.alone) in
           absurd cc

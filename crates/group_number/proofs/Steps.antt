@@ -1,5 +1,5 @@
 -- One byte of a group number is read, by cases.
-use Rattle.std.proofs.Common.{◌≡◌, ◌⊎◌, ℕ, zero, suc, ◌+◌, ◌-◌, ◌*◌, ◌^◌, ◌<◌, ◌≤◌, Bool, true, false, List, [], ◌∷◌, refl, sym, ap, ◌∙◌, arith, inl, inr}
+use Rattle.std.proofs.Common.{◌≡◌, ℕ, zero, suc, ◌+◌, ◌-◌, ◌*◌, ◌^◌, ◌<◌, ◌≤◌, List, [], ◌∷◌, refl, ap, ◌∙◌, arith, inl, inr}
 use Rattle.std.proofs.lemmas.Bool.{cases_lt, lt-ltb, le-ltb, le-leb, lt-leb}
 use Rattle.std.proofs.lemmas.Nat.{pow-add}
 use Rattle.std.proofs.Math.Pow.{pow_mono}
@@ -46,13 +46,13 @@ pub step : (bits b : ℕ) → Step bits b
 step bits b =
     elim (cases_lt b 128) [
       | inl low ↦ elim (cases_lt b (2 ^ bits)) [
-          | inl fits ↦ last low fits
-          | inr large ↦ ends (λ bytes. at_large bits b bytes low large)
-        ]
+        | inl fits ↦ last low fits
+        | inr large ↦ ends (λ bytes. at_large bits b bytes low large)
+      ]
       | inr high ↦ elim (cases_lt 7 bits) [
-          | inl long ↦ more high long
-          | inr few ↦ ends (λ bytes. at_many bits b bytes high few)
-        ]
+        | inl long ↦ more high long
+        | inr few ↦ ends (λ bytes. at_many bits b bytes high few)
+      ]
     ]
 
 -- what stands behind a low group where a number is read

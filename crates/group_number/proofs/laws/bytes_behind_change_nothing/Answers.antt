@@ -1,4 +1,4 @@
-use Rattle.group_number.proofs.GroupLaws.{whole_stays, least, short_below_ten}
+use Rattle.group_number.proofs.GroupLaws.{whole_stays, least}
 use Rattle.group_number.proofs.laws.bytes_behind_change_nothing.Goals as goal
 
 pub returns-clause-more : goal.returns-clause-more
@@ -6,6 +6,3 @@ returns-clause-more c = whole_stays
 
 pub returns-clause-least : goal.returns-clause-least
 returns-clause-least c = least
-
-pub returns-clause-ten : goal.returns-clause-ten
-returns-clause-ten c = short_below_ten

@@ -1,5 +1,5 @@
-use Rattle.std.proofs.Common.{◌≡◌, ℕ, ◌<◌, ◌≤◌, slice_index_or, arith}
-use Rattle.group_number.proofs.Behind.{behind_init, behind_end, behind_spare, behind_large, behind_last, behind_more, last_sum, more_sum, more_fits}
+use Rattle.std.proofs.Common.{◌≡◌, ◌≤◌, slice_index_or, arith}
+use Rattle.group_number.proofs.Behind.{behind_end, behind_spare, behind_large, behind_last, behind_more, last_sum, more_sum, more_fits}
 use Rattle.group_number.proofs.reading.read_behind.Goals.{then-byte-eq0-via-then-byte-eq0, then-byte-eq0-via-else-byte-eq0+then-byte-gt1}
 use Rattle.group_number.proofs.reading.read_behind.Goals as goal
 
@@ -21,7 +21,7 @@ overflow_add-result c =
 pub returns-then-byte-lt128 : goal.returns-then-byte-lt128
 returns-then-byte-lt128 c =
     behind_last c.args.first c.args.bytes.now c.loop-i.number c.loop-i.shift c.loop-i.i c.loop-i.invariant c.loop-i-test.true (omega arith) c.if-byte-lt128.true
-      (λ full. omega (arith, full, c.if-byte-gt1.either))
+    (λ full. omega (arith, full, c.if-byte-gt1.either))
 
 pub overflow_add-number : goal.overflow_add-number
 overflow_add-number c =
@@ -33,7 +33,7 @@ overflow_add-number c =
 pub loop-i-preserved : goal.loop-i-preserved
 loop-i-preserved c =
     behind_more c.args.first c.args.bytes.now c.loop-i.number c.loop-i.shift c.loop-i.i c.loop-i.invariant c.loop-i-test.true c.if-byte-lt128.false (omega (arith, c.type_inv.bytes c.loop-i.i))
-      (λ full. omega (arith, full, c.if-byte-gt1.either))
+    (λ full. omega (arith, full, c.if-byte-gt1.either))
 
 pub returns : goal.returns
 returns c = behind_end c.args.first c.args.bytes.now c.loop-i.number c.loop-i.shift c.loop-i.i c.loop-i.invariant c.loop-i-test.false

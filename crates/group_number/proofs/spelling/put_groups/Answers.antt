@@ -1,4 +1,4 @@
-use Rattle.std.proofs.Common.{◌≡◌, ◌+◌, ◌%◌, ◌/◌, ℕ, List, [], ◌∷◌, ◌++◌, ap, sym, ◌∙◌, append_assoc, arith}
+use Rattle.std.proofs.Common.{◌+◌, ◌%◌, ◌/◌, ℕ, List, [], ◌∷◌, ◌++◌, ap, sym, ◌∙◌, append_assoc, arith}
 use Rattle.group_number.specs.Groups.{group_bytes}
 use Rattle.group_number.proofs.GroupLaws.{group_bytes_step, group_bytes_low}
 use Rattle.group_number.proofs.spelling.put_groups.Goals as goal
