@@ -7,6 +7,8 @@ mod laws;
 mod reading;
 mod spelling;
 
-pub use laws::{bytes_behind_change_nothing, no_spelling_begins_another, reading_is_spelling};
-pub use reading::{is_group_whole, read_group, GroupRead};
+pub use laws::{
+    bytes_behind_change_nothing, no_spelling_begins_another, one_to_ten_bytes, reading_is_spelling,
+};
+pub use reading::{GroupRead, is_group_whole, read_group};
 pub use spelling::{group_len, put_group};

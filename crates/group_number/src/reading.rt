@@ -31,7 +31,7 @@ pub fn read_group(bytes: &[u8]) -> GroupRead
     }
 }
 
-/// A group before others, and what is read of the bytes behind it.
+/// A first group that has others behind it, and what is read of these.
 #[inline(never)]
 fn read_behind(first: u8, bytes: &[u8]) -> GroupRead
     requires { 128 ≤ first }
@@ -40,28 +40,19 @@ fn read_behind(first: u8, bytes: &[u8]) -> GroupRead
     let mut number = (first - 128) as u64;
     let mut shift: u32 = 7;
     for (i, &byte) in bytes.iter().enumerate() {
-        if byte < 128 {
-            return last_group(number, shift, byte, i + 2);
-        }
-        if shift == 63 {
+        if byte == 0 || (shift == 63 && byte > 1) {
             return GroupRead::Bad;
+        }
+        if byte < 128 {
+            return GroupRead::Number {
+                number: number + ((byte as u64) << shift),
+                len: i + 2,
+            };
         }
         number += ((byte - 128) as u64) << shift;
         shift += 7;
     }
     GroupRead::Short
-}
-
-/// The last group of a number of more than one.
-#[inline(always)]
-fn last_group(before: u64, shift: u32, group: u8, len: usize) -> GroupRead {
-    if group == 0 || (shift == 63 && group > 1) {
-        return GroupRead::Bad;
-    }
-    GroupRead::Number {
-        number: before + ((group as u64) << shift),
-        len,
-    }
 }
 
 /// Whether the bytes hold a whole group number, or begin none. Bytes behind them then change nothing of what is read.

@@ -9,6 +9,7 @@ use std::alloc::AllocError;
 ///
 /// `AllocError` where there is no memory for the bytes. Some of them may have been written then.
 #[inline(always)]
+#[tactic(auto, using(crate::proofs::GroupLaws::group_bytes_low))]
 pub fn put_group(out: &mut Vec<u8>, number: u64) -> Result<(), AllocError>
     ensures { OnOk result (out.new.items ≡ out.old.items ++ group_bytes number) }
 {
@@ -35,6 +36,7 @@ fn put_groups(out: &mut Vec<u8>, number: u64) -> Result<(), AllocError>
 
 /// How many bytes the number takes, from 1 to 10.
 #[inline(always)]
+#[tactic(auto, using(crate::proofs::GroupLaws::group_bytes_low))]
 pub fn group_len(number: u64) -> usize
     ensures { result ≡ length (group_bytes number) }
 {

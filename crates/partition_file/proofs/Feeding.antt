@@ -70,7 +70,7 @@ field_ends e s place (b ∷ bytes) rest n len some before read =
     stage_number e s place b (bytes ++ rest)
     ∙ leads_on (format_in s) (width_of s) place held rest (numbered_at e s place) n len (width_at_least s) read
     ∙ ap (λ (k : ℕ). numbered_at e s place n (place + k) (drop k held ++ rest)) all
-    ∙ ap (λ (x : List ℕ). numbered_at e s place n (place + length held) (x ++ rest)) (drop_all held)
+    ∙ ap (λ (x : List ℕ). numbered_at e s place n (place + length held) (x ++ rest)) (drop_all (length held) held (omega arith))
 
 pub field_breaks : (e : Expect) (s : Stage) (place : ℕ) (held rest : List ℕ) → 0 < length held → field_in s held ≡ numbers.Bad → stage_at e s place (held ++ rest) ≡ stop place BadNumber
 field_breaks e s place [] rest some read = absurd (omega arith)

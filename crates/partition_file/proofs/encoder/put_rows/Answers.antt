@@ -21,7 +21,7 @@ loop-vertex-preserved c =
     let more : c.args.hi - v ≡ suc (c.args.hi - (v + 1)) = omega arith in
     record {
       text = rw (c.in_ok-put_edges.ensures, c.in_ok-put_count.ensures, c.split_at.ensures.front, c.split_at.ensures.back)
-          (row_written c.loop-vertex.out.items (c.args.out.now.items ++ rows_bytes (c.args.hi - c.args.lo) c.args.lo c.args.edges.now) (c.args.hi - v) (c.args.hi - (v + 1)) v rest m more c.row_len-count.ensures.within parts.0 parts.1 inv.text);
+          (row_written c.args.format c.loop-vertex.out.items (c.args.out.now.items ++ rows_bytes c.args.format (c.args.hi - c.args.lo) c.args.lo c.args.edges.now) (c.args.hi - v) (c.args.hi - (v + 1)) v rest m more c.row_len-count.ensures.within parts.0 parts.1 inv.text);
       low = rw c.split_at.ensures.back parts.1;
       sorted = rw c.split_at.ensures.back parts.2;
     }
