@@ -1,6 +1,7 @@
 -- One more byte of a field.
 use Rattle.std.proofs.Common.{◌⊎◌, ◌≡◌, ℕ, ◌+◌, ◌-◌, ◌<◌, ◌≤◌, List, [], ◌∷◌, ◌++◌, length, take, drop, set, Some, None, refl, sym, ap, subst, ◌∙◌, append_assoc, arith, inl, inr, length-append}
 use Rattle.std.proofs.lemmas.List.{append-nil, take_more_set, take_at, drop_all}
+use Rattle.group_number.specs.declared.reading.GroupRead.{GroupRead}
 use Rattle.group_number.specs.declared.reading.GroupRead.TheVariants as numbers
 use Rattle.faults.specs.declared.form_kind.FormKind.TheVariants.{Short, BadNumber}
 use Rattle.partition_file.specs.declared.types.Expect.{Expect}
@@ -12,10 +13,10 @@ use Rattle.partition_file.specs.declared.types.Completed.{Completed}
 use Rattle.partition_file.specs.declared.types.Completed.TheVariants as completed
 use Rattle.partition_file.specs.declared.types.RowStep.{RowStep}
 use Rattle.partition_file.specs.declared.types.RowStep.TheVariants as steps
-use Rattle.partition_file.specs.FieldsRead.{complete, number, stop, magic_at, low_at, high_at, count_at, label_at, destination_at, birth_at, end_at}
+use Rattle.partition_file.specs.FieldsRead.{complete, number_leads, number, stop, magic_at, low_at, high_at, count_at, label_at, destination_at, birth_at, end_at}
 use Rattle.partition_file.specs.Stages.{stage_at, format_in, width_of, field_in, numbered_at, IsNextStage, IsStage, IsCompleted, completed_at, stage_behind, step_of}
 use Rattle.partition_file.specs.Reader.{Reader, IsOpen, rest_of, FeedsField, GivesStep, Uses}
-use Rattle.partition_file.proofs.NumberLaws.{little_is, IsLittle, nothing_read, number_len, number_all, short_below, leads_short, leads_bad, leads_on}
+use Rattle.partition_file.proofs.NumberLaws.{little_long, little_is, IsLittle, nothing_read, number_len, number_all, short_below, leads_short, leads_bad, leads_on}
 
 pub width_at_most : (s : Stage) → width_of s ≤ 8
 width_at_most stages.Magic = omega arith
@@ -56,8 +57,8 @@ stage_number e (stages.Count f v) place b bytes = refl
 stage_number e (stages.Label f v left before) place b bytes = refl
 stage_number e (stages.Destination f v left before label) place b bytes = refl
 stage_number e (stages.Birth f edge left) place b bytes = refl
-stage_number e stages.End place b bytes = refl
-stage_number e (stages.Fault f) place b bytes = refl
+stage_number e stages.End place b bytes = sym (ap (λ (r : GroupRead). number_leads r place (b ∷ bytes) (numbered_at e stages.End place)) (little_long 1 (b ∷ bytes) (omega arith)))
+stage_number e (stages.Fault f) place b bytes = sym (ap (λ (r : GroupRead). number_leads r place (b ∷ bytes) (numbered_at e (stages.Fault f) place)) (little_long 1 (b ∷ bytes) (omega arith)))
 
 -- ---- what a whole field leads to
 
@@ -94,15 +95,15 @@ short_number e s place held read = leads_short (format_in s) (width_of s) place 
 -- where neither the end nor a fault comes next, the end comes too early
 ends_short : (e : Expect) (s : Stage) (place : ℕ) (held : List ℕ) → (s ≡ stages.End → ⊥) → IsNoFault s → field_in s held ≡ numbers.Short → stage_at e s place held ≡ stop place Short
 unfolding magic_at low_at high_at count_at label_at destination_at birth_at
-ends_short e stages.Magic place held n no read = short_number e stages.Magic place held read
-ends_short e (stages.Low f) place held n no read = short_number e (stages.Low f) place held read
-ends_short e (stages.High f) place held n no read = short_number e (stages.High f) place held read
-ends_short e (stages.Count f v) place held n no read = short_number e (stages.Count f v) place held read
-ends_short e (stages.Label f v left before) place held n no read = short_number e (stages.Label f v left before) place held read
-ends_short e (stages.Destination f v left before label) place held n no read = short_number e (stages.Destination f v left before label) place held read
-ends_short e (stages.Birth f edge left) place held n no read = short_number e (stages.Birth f edge left) place held read
-ends_short e stages.End place held n no read = absurd (n refl)
-ends_short e (stages.Fault f) place held n no read = absurd no
+ends_short e stages.Magic place held n calm read = short_number e stages.Magic place held read
+ends_short e (stages.Low f) place held n calm read = short_number e (stages.Low f) place held read
+ends_short e (stages.High f) place held n calm read = short_number e (stages.High f) place held read
+ends_short e (stages.Count f v) place held n calm read = short_number e (stages.Count f v) place held read
+ends_short e (stages.Label f v left before) place held n calm read = short_number e (stages.Label f v left before) place held read
+ends_short e (stages.Destination f v left before label) place held n calm read = short_number e (stages.Destination f v left before label) place held read
+ends_short e (stages.Birth f edge left) place held n calm read = short_number e (stages.Birth f edge left) place held read
+ends_short e stages.End place held n calm read = absurd (n refl)
+ends_short e (stages.Fault f) place held n calm read = absurd calm
 
 pub at_end : (e : Expect) (place : ℕ) (held : List ℕ) → field_in stages.End held ≡ numbers.Short → end_at place (held ++ []) ≡ complete
 unfolding end_at
@@ -110,21 +111,21 @@ at_end e place held read = rw (none_held held read) refl
 
 short : (e : Expect) (s : Stage) (place : ℕ) (held : List ℕ) → IsNoFault s → field_in s held ≡ numbers.Short → (stage_at e s place held ≡ complete) ⊎ (stage_at e s place held ≡ stop place Short)
 unfolding end_at
-short e stages.Magic place held no read = inr (ends_short e stages.Magic place held (λ x. cc) no read)
-short e (stages.Low f) place held no read = inr (ends_short e (stages.Low f) place held (λ x. cc) no read)
-short e (stages.High f) place held no read = inr (ends_short e (stages.High f) place held (λ x. cc) no read)
-short e (stages.Count f v) place held no read = inr (ends_short e (stages.Count f v) place held (λ x. cc) no read)
-short e (stages.Label f v left before) place held no read = inr (ends_short e (stages.Label f v left before) place held (λ x. cc) no read)
-short e (stages.Destination f v left before label) place held no read = inr (ends_short e (stages.Destination f v left before label) place held (λ x. cc) no read)
-short e (stages.Birth f edge left) place held no read = inr (ends_short e (stages.Birth f edge left) place held (λ x. cc) no read)
-short e stages.End place held no read = inl (rw (none_held held read) refl)
-short e (stages.Fault f) place held no read = absurd no
+short e stages.Magic place held calm read = inr (ends_short e stages.Magic place held (λ x. cc) calm read)
+short e (stages.Low f) place held calm read = inr (ends_short e (stages.Low f) place held (λ x. cc) calm read)
+short e (stages.High f) place held calm read = inr (ends_short e (stages.High f) place held (λ x. cc) calm read)
+short e (stages.Count f v) place held calm read = inr (ends_short e (stages.Count f v) place held (λ x. cc) calm read)
+short e (stages.Label f v left before) place held calm read = inr (ends_short e (stages.Label f v left before) place held (λ x. cc) calm read)
+short e (stages.Destination f v left before label) place held calm read = inr (ends_short e (stages.Destination f v left before label) place held (λ x. cc) calm read)
+short e (stages.Birth f edge left) place held calm read = inr (ends_short e (stages.Birth f edge left) place held (λ x. cc) calm read)
+short e stages.End place held calm read = inl (rw (none_held held read) refl)
+short e (stages.Fault f) place held calm read = absurd calm
 
 abbrev pub reader : Expect → Stage → ℕ → List ℕ → Reader
 reader e s place held = record { expect = e; stage = s; place = place; held = held }
 
 pub is_open : (e : Expect) (s : Stage) (place : ℕ) (held : List ℕ) → IsNoFault s → field_in s held ≡ numbers.Short → IsOpen (reader e s place held)
-is_open e s place held no read = rw (append-nil held) (short e s place held no read)
+is_open e s place held calm read = rw (append-nil held) (short e s place held calm read)
 
 pub no_fault_from_next : (e : Expect) (s : Stage) → IsNextStage e s → IsNoFault s
 no_fault_from_next e stages.Magic n = tt

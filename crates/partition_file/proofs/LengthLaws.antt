@@ -30,7 +30,7 @@ length-row_bytes row = omega (arith, length-append (little_bytes 8 (length row))
 
 length-rows_bytes : (n v : ℕ) (es : List Born) → Above v es → AllByRecursion (λ b. b.edge.src.0 < v + n) es → Ascends es → length (rows_bytes First n v es) ≡ 8 * n + 14 * length es
 length-rows_bytes zero v es low high sorted = let none : es ≡ [] = none_left v es low high in omega (arith, ap length none)
-length-rows_bytes First (suc n) v es low high sorted =
+length-rows_bytes (suc n) v es low high sorted =
     let c = cut v es sorted low in
     let both = split_all (λ b. b.edge.src.0 < v + suc n) c.row c.others (subst (AllByRecursion (λ b. b.edge.src.0 < v + suc n)) c.parts high) in
     let in-order : Ascends (c.row ++ c.others) = subst Ascends c.parts sorted in
@@ -40,7 +40,7 @@ length-rows_bytes First (suc n) v es low high sorted =
       arith,
       length-append (row_bytes First c.row) (rows_bytes First n (v + 1) c.others),
       length-row_bytes First c.row,
-      length-rows_bytes First n (v + 1) c.others c.above (higher v n c.others both.1) (ascends_others c.row c.others in-order),
+      length-rows_bytes n (v + 1) c.others c.above (higher v n c.others both.1) (ascends_others c.row c.others in-order),
       ap length c.parts,
       length-append c.row c.others,
     )
@@ -61,5 +61,5 @@ length-spelling p is =
       four,
       length-bytes_low_first 0 4 p.lo,
       length-bytes_low_first 0 4 p.hi,
-      length-rows_bytes First (p.hi - p.lo) p.lo p.edges w.0 w.1 (Ascends-from_pairs p.edges is.ascending),
+      length-rows_bytes (p.hi - p.lo) p.lo p.edges w.0 w.1 (Ascends-from_pairs p.edges is.ascending),
     )

@@ -1,0 +1,26 @@
+use Rattle.std.proofs.Common.{◌≡◌, Some, refl, arith}
+use Rattle.group_number.specs.declared.reading.GroupRead.TheVariants as numbers
+use Rattle.partition_file.specs.FieldsRead.{number_in, label_at, label_then}
+use Rattle.partition_file.proofs.EdgeReading.{passed, number_breaks, rule_breaks, rule_gives}
+use Rattle.partition_file.proofs.fields.read_label.Goals as goal
+
+pub returns-in_err-number : goal.returns-in_err-number
+unfolding label_at
+returns-in_err-number c =
+    let fault = c.in_err-number.field-0.0 in
+    passed (label_at c.args.expect.now c.args.format c.args.before) c.args.place c.args.bytes.now c.from_residual.result fault c.from_residual.ensures.1
+    (λ next rest. number_breaks c.args.format 2 c.args.place c.args.bytes.now rest (label_then c.args.expect.now c.args.format c.args.before c.args.place next) fault c.in_err-number.ensures)
+
+pub returns-in_err-label : goal.returns-in_err-label
+unfolding label_at
+returns-in_err-label c =
+    let fault = c.in_err-label.field-0.0 in
+    let read : number_in c.args.format 2 c.args.bytes.now ≡ numbers.Number c.in-Some.number c.in-Some.len = rw c.in-Some.is at c.in_ok-number.ensures in
+    passed (label_at c.args.expect.now c.args.format c.args.before) c.args.place c.args.bytes.now c.from_residual-in_err-label.result fault c.from_residual-in_err-label.ensures.1
+    (λ next rest. rule_breaks c.args.format 2 c.args.place c.args.bytes.now rest (label_then c.args.expect.now c.args.format c.args.before c.args.place next) c.in-Some.number c.in-Some.len fault (omega arith) read (c.in_err-label.ensures next))
+
+pub returns : goal.returns
+unfolding label_at
+returns c =
+    let read : number_in c.args.format 2 c.args.bytes.now ≡ numbers.Number c.in-Some.number c.in-Some.len = rw c.in-Some.is at c.in_ok-number.ensures in
+    rule_gives (label_at c.args.expect.now c.args.format c.args.before) c.args.format 2 c.args.place c.args.bytes.now (label_then c.args.expect.now c.args.format c.args.before c.args.place) c.in-Some.number c.in-Some.len c.in_ok-label.label (omega arith) read (λ next rest. refl) c.in_ok-label.ensures
