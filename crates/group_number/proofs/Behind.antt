@@ -1,5 +1,6 @@
 -- Groups in front of what is read behind them, and one more of these.
-use Rattle.std.proofs.Common.{◌≡◌, ℕ, zero, suc, ◌+◌, ◌-◌, ◌*◌, ◌%◌, ◌^◌, ◌<◌, ◌≤◌, List, [], ◌∷◌, length, take, drop, get_or, refl, sym, ap, ◌∙◌, subst, arith, inl, inr}
+use Rattle.std.proofs.Common.{◌≡◌, ℕ, zero, suc, ◌+◌, ◌-◌, ◌*◌, ◌%◌, ◌^◌, ◌<◌, ◌≤◌, List, [], ◌∷◌, length, take, drop}
+use Rattle.std.proofs.Common.{get_or, refl, sym, ap, ◌∙◌, subst, arith, inl, inr}
 use Rattle.std.proofs.lemmas.Bool.{cases_lt}
 use Rattle.std.proofs.lemmas.List.{drop_all, take_all}
 use Rattle.std.proofs.lemmas.Nat.{pow-add, pow_pos, row_fits, shl_whole}
@@ -37,7 +38,8 @@ behind_groups low bits count Bad = Bad
 behind_groups low bits count (Number zero len) = Bad
 behind_groups low bits count (Number (suc n) len) = Number (low + 2 ^ bits * suc n) (count + len)
 
-groups_some : (low bits count high len : ℕ) → 0 < high → behind_groups low bits count (Number high len) ≡ Number (low + 2 ^ bits * high) (count + len)
+groups_some : (low bits count high len : ℕ) → 0 < high
+    → behind_groups low bits count (Number high len) ≡ Number (low + 2 ^ bits * high) (count + len)
 groups_some low bits count zero len some = absurd (omega arith)
 groups_some low bits count (suc n) len some = refl
 
@@ -54,7 +56,8 @@ regroup low bits group high =
     rw power (grind (arith, mul_comm, mul_assoc))
 
 -- a group more stands in front
-pub behind_next : (low bits count group : ℕ) (behind : GroupRead) → behind_groups low bits count (behind_group group behind) ≡ behind_groups (low + group * 2 ^ bits) (bits + 7) (count + 1) behind
+pub behind_next : (low bits count group : ℕ) (behind : GroupRead)
+    → behind_groups low bits count (behind_group group behind) ≡ behind_groups (low + group * 2 ^ bits) (bits + 7) (count + 1) behind
 behind_next low bits count group Short = refl
 behind_next low bits count group Bad = refl
 behind_next low bits count group (Number zero len) = refl
@@ -88,23 +91,29 @@ behind_init first bytes byte = record {
 
 -- the byte at the place, and those behind it
 at_place : (first : ℕ) (bytes : List ℕ) (number shift i : ℕ) → IsBehind first bytes number shift i → i < length bytes
-    → behind_groups number shift (i + 1) (groups_in (64 - shift) (get_or bytes i 0 ∷ drop (suc i) bytes)) ≡ behind_group (first - 128) (groups_in 57 bytes)
-at_place first bytes number shift i h lt = ap (λ (x : List ℕ). behind_groups number shift (i + 1) (groups_in (64 - shift) x)) (sym (drop-cons bytes i 0 lt)) ∙ h.left
+    → behind_groups number shift (i + 1) (groups_in (64 - shift) (get_or bytes i 0 ∷ drop (suc i) bytes))
+    ≡ behind_group (first - 128) (groups_in 57 bytes)
+at_place first bytes number shift i h lt =
+    ap (λ (x : List ℕ). behind_groups number shift (i + 1) (groups_in (64 - shift) x)) (sym (drop-cons bytes i 0 lt)) ∙ h.left
 
 -- the bytes end
-pub behind_end : (first : ℕ) (bytes : List ℕ) (number shift i : ℕ) → IsBehind first bytes number shift i → length bytes ≤ i → Short ≡ behind_group (first - 128) (groups_in 57 bytes)
+pub behind_end : (first : ℕ) (bytes : List ℕ) (number shift i : ℕ) → IsBehind first bytes number shift i
+    → length bytes ≤ i → Short ≡ behind_group (first - 128) (groups_in 57 bytes)
 behind_end first bytes number shift i h all =
     ap (behind_groups number shift (i + 1)) (sym (ap (groups_in (64 - shift)) (drop_all i bytes all) ∙ at_end (64 - shift))) ∙ h.left
 
 -- a last group of 0 is spare
-pub behind_spare : (first : ℕ) (bytes : List ℕ) (number shift i : ℕ) → IsBehind first bytes number shift i → i < length bytes → get_or bytes i 0 ≡ 0 → Bad ≡ behind_group (first - 128) (groups_in 57 bytes)
+pub behind_spare : (first : ℕ) (bytes : List ℕ) (number shift i : ℕ) → IsBehind first bytes number shift i
+    → i < length bytes → get_or bytes i 0 ≡ 0 → Bad ≡ behind_group (first - 128) (groups_in 57 bytes)
 behind_spare first bytes number shift i h lt spare =
     let b = get_or bytes i 0 in
-    let read : groups_in (64 - shift) (b ∷ drop (suc i) bytes) ≡ Number b 1 = at_last (64 - shift) b (drop (suc i) bytes) (omega arith) (subst (λ (k : ℕ). k < 2 ^ (64 - shift)) (sym spare) (pow_pos (64 - shift))) in
+    let some : b < 2 ^ (64 - shift) = subst (λ (k : ℕ). k < 2 ^ (64 - shift)) (sym spare) (pow_pos (64 - shift)) in
+    let read = at_last (64 - shift) b (drop (suc i) bytes) (omega arith) some in
     ap (behind_groups number shift (i + 1)) (sym (read ∙ ap (λ (k : ℕ). Number k 1) spare)) ∙ at_place first bytes number shift i h lt
 
 -- a tenth byte above 1 is too large
-pub behind_large : (first : ℕ) (bytes : List ℕ) (number shift i : ℕ) → IsBehind first bytes number shift i → i < length bytes → shift ≡ 63 → 1 < get_or bytes i 0 → Bad ≡ behind_group (first - 128) (groups_in 57 bytes)
+pub behind_large : (first : ℕ) (bytes : List ℕ) (number shift i : ℕ) → IsBehind first bytes number shift i
+    → i < length bytes → shift ≡ 63 → 1 < get_or bytes i 0 → Bad ≡ behind_group (first - 128) (groups_in 57 bytes)
 behind_large first bytes number shift i h lt full large =
     let b = get_or bytes i 0 in
     let bits : 64 - shift ≡ 1 = omega arith in
@@ -112,7 +121,8 @@ behind_large first bytes number shift i h lt full large =
       | inl low ↦ at_large 1 b (drop (suc i) bytes) low (omega arith)
       | inr high ↦ at_many 1 b (drop (suc i) bytes) high (omega arith)
     ] in
-    ap (behind_groups number shift (i + 1)) (sym (ap (λ (k : ℕ). groups_in k (b ∷ drop (suc i) bytes)) bits ∙ bad)) ∙ at_place first bytes number shift i h lt
+    ap (behind_groups number shift (i + 1)) (sym (ap (λ (k : ℕ). groups_in k (b ∷ drop (suc i) bytes)) bits ∙ bad))
+    ∙ at_place first bytes number shift i h lt
 
 -- below the tenth byte there is room for a group of seven bits
 last_fits : (shift i b : ℕ) → shift ≡ 7 * (i + 1) → shift ≤ 63 → b < 128 → (shift ≡ 63 → b ≤ 1) → b < 2 ^ (64 - shift)
@@ -123,14 +133,17 @@ last_fits shift i b steps room low small =
     ]
 
 -- the sum of the last group and those before it
-pub last_sum : (shift i number b : ℕ) → shift ≡ 7 * (i + 1) → shift ≤ 63 → number < 2 ^ shift → b < 128 → (shift ≡ 63 → b ≤ 1) → ((b * 2 ^ shift) % 2 ^ 64 ≡ b * 2 ^ shift) × (number + b * 2 ^ shift < 2 ^ 64)
+pub last_sum : (shift i number b : ℕ) → shift ≡ 7 * (i + 1) → shift ≤ 63 → number < 2 ^ shift → b < 128 → (shift ≡ 63
+    → b ≤ 1) → ((b * 2 ^ shift) % 2 ^ 64 ≡ b * 2 ^ shift) × (number + b * 2 ^ shift < 2 ^ 64)
 last_sum shift i number b steps room below low small =
     let fits = last_fits shift i b steps room low small in
     let width : (64 - shift) + shift ≡ 64 = omega arith in
-    (shl_whole b (64 - shift) shift 64 fits (omega arith), subst (λ (k : ℕ). number + b * 2 ^ shift < 2 ^ k) width (group_fits number shift b (64 - shift) below fits))
+    let sum = group_fits number shift b (64 - shift) below fits in
+    (shl_whole b (64 - shift) shift 64 fits (omega arith), subst (λ (k : ℕ). number + b * 2 ^ shift < 2 ^ k) width sum)
 
 -- the last group
-pub behind_last : (first : ℕ) (bytes : List ℕ) (number shift i : ℕ) → IsBehind first bytes number shift i → i < length bytes → 0 < get_or bytes i 0 → get_or bytes i 0 < 128 → (shift ≡ 63 → get_or bytes i 0 ≤ 1)
+pub behind_last : (first : ℕ) (bytes : List ℕ) (number shift i : ℕ) → IsBehind first bytes number shift i
+    → i < length bytes → 0 < get_or bytes i 0 → get_or bytes i 0 < 128 → (shift ≡ 63 → get_or bytes i 0 ≤ 1)
     → Number (number + (get_or bytes i 0 * 2 ^ shift) % 2 ^ 64) (i + 2) ≡ behind_group (first - 128) (groups_in 57 bytes)
 behind_last first bytes number shift i h lt some low small =
     let b = get_or bytes i 0 in
@@ -149,19 +162,24 @@ more_sum shift i number b steps room less below byte =
     let fits : b - 128 < 2 ^ 7 = omega arith in
     let next : shift + 7 ≤ 63 = omega arith in
     let width : 7 + shift ≡ shift + 7 = omega arith in
-    (shl_whole (b - 128) 7 shift 64 fits (omega arith), subst (λ (k : ℕ). number + (b - 128) * 2 ^ shift < 2 ^ k) width (group_fits number shift (b - 128) 7 below fits), next)
+    let sum = group_fits number shift (b - 128) 7 below fits in
+    let below_next = subst (λ (k : ℕ). number + (b - 128) * 2 ^ shift < 2 ^ k) width sum in
+    (shl_whole (b - 128) 7 shift 64 fits (omega arith), below_next, next)
 
-pub more_fits : (shift number b : ℕ) → number + (b - 128) * 2 ^ shift < 2 ^ (shift + 7) → shift + 7 ≤ 63 → number + (b - 128) * 2 ^ shift < 2 ^ 64
+pub more_fits : (shift number b : ℕ) → number + (b - 128) * 2 ^ shift < 2 ^ (shift + 7) → shift + 7 ≤ 63
+    → number + (b - 128) * 2 ^ shift < 2 ^ 64
 more_fits shift number b below room = omega (arith, pow_mono {i = shift + 7} {j = 64} (omega arith))
 
 -- a group that others stand behind
-pub behind_more : (first : ℕ) (bytes : List ℕ) (number shift i : ℕ) → IsBehind first bytes number shift i → i < length bytes → 128 ≤ get_or bytes i 0 → get_or bytes i 0 < 256 → (shift ≡ 63 → ⊥)
+pub behind_more : (first : ℕ) (bytes : List ℕ) (number shift i : ℕ) → IsBehind first bytes number shift i
+    → i < length bytes → 128 ≤ get_or bytes i 0 → get_or bytes i 0 < 256 → (shift ≡ 63 → ⊥)
     → IsBehind first bytes (number + ((get_or bytes i 0 - 128) * 2 ^ shift) % 2 ^ 64) (shift + 7) (i + 1)
 behind_more first bytes number shift i h lt high byte less =
     let b = get_or bytes i 0 in
     let s = more_sum shift i number b h.steps h.room less h.below byte in
     let bits : 64 - shift - 7 ≡ 64 - (shift + 7) = omega arith in
     let place : suc i ≡ i + 1 = omega arith in
+    let next = behind_groups (number + (b - 128) * 2 ^ shift) (shift + 7) (i + 1 + 1) in
     let left = sym (behind_next number shift (i + 1) (b - 128) (groups_in (64 - shift - 7) (drop (suc i) bytes)))
     ∙ ap (behind_groups number shift (i + 1)) (sym (at_more (64 - shift) b (drop (suc i) bytes) high (omega arith)))
     ∙ at_place first bytes number shift i h lt in
@@ -169,7 +187,7 @@ behind_more first bytes number shift i h lt high byte less =
       steps = omega (arith, h.steps);
       room = s.2;
       below = s.1;
-      left = ap (λ (k : ℕ). behind_groups (number + (b - 128) * 2 ^ shift) (shift + 7) (i + 1 + 1) (groups_in k (drop (i + 1) bytes))) (sym bits)
-          ∙ ap (λ (k : ℕ). behind_groups (number + (b - 128) * 2 ^ shift) (shift + 7) (i + 1 + 1) (groups_in (64 - shift - 7) (drop k bytes))) (sym place)
+      left = ap (λ (k : ℕ). next (groups_in k (drop (i + 1) bytes))) (sym bits)
+          ∙ ap (λ (k : ℕ). next (groups_in (64 - shift - 7) (drop k bytes))) (sym place)
           ∙ left;
     })

@@ -1,10 +1,12 @@
 -- What is read is a spelling, a spelling is read again, and bytes behind a number change nothing.
-use Rattle.std.proofs.Common.{◌≡◌, ℕ, zero, suc, ◌+◌, ◌-◌, ◌*◌, ◌/◌, ◌%◌, ◌^◌, ◌<◌, ◌≤◌, true, false, List, [], ◌∷◌, ◌++◌, length, take, drop, refl, sym, ap, ◌∙◌, subst, arith, inl, inr}
+use Rattle.std.proofs.Common.{◌≡◌, ℕ, zero, suc, ◌+◌, ◌-◌, ◌*◌, ◌/◌, ◌%◌, ◌^◌, ◌<◌, ◌≤◌, true, false, List, [], ◌∷◌}
+use Rattle.std.proofs.Common.{◌++◌, length, take, drop, refl, sym, ap, ◌∙◌, subst, arith, inl, inr}
 use Rattle.std.proofs.lemmas.Bool.{cases_lt, lt-ltb, le-ltb}
 use Rattle.std.proofs.lemmas.List.{take-append-drop, take-take}
 use Rattle.std.proofs.Math.Nat.{pow-suc}
 use Rattle.group_number.specs.declared.reading.GroupRead.TheVariants.{Bad, Number}
-use Rattle.group_number.specs.Groups.{IsBytes, IsGroupNumber, behind_group, groups_in, group_at, is_decided, is_whole_group, groups_of, group_bytes}
+use Rattle.group_number.specs.Groups.{IsBytes, IsGroupNumber, behind_group, groups_in, group_at, is_decided}
+use Rattle.group_number.specs.Groups.{is_whole_group, groups_of, group_bytes}
 use Rattle.group_number.proofs.Steps.{pow_seven, pow_few, at_end, at_last, at_more, Step, step, parts, behind_some, decided_behind}
 
 -- ---- bytes behind
@@ -40,7 +42,8 @@ pub record Front (bits : ℕ) (bytes : List ℕ) (n len : ℕ) : Type 0 where
   pub within : len ≤ length bytes
   pub alone : groups_in bits (take len bytes) ≡ Number n len
 
-front_last : (bits b : ℕ) (bytes : List ℕ) (n len : ℕ) → 0 < bits → b < 128 → b < 2 ^ bits → groups_in bits (b ∷ bytes) ≡ Number n len → Front bits (b ∷ bytes) n len
+front_last : (bits b : ℕ) (bytes : List ℕ) (n len : ℕ) → 0 < bits → b < 128 → b < 2 ^ bits
+    → groups_in bits (b ∷ bytes) ≡ Number n len → Front bits (b ∷ bytes) n len
 front_last bits b bytes n len room low fits e =
     let read = at_last bits b bytes low fits in
     let one : 1 ≡ len = cc in
@@ -81,7 +84,8 @@ short_few bits (b ∷ bytes) room e =
       | Step.last low fits ↦ let decided = ap is_decided (at_last bits b bytes low fits) in absurd cc
       | Step.ends bad ↦ let decided = ap is_decided (bad bytes) in absurd cc
       | Step.more high long ↦
-          let behind = short_few (bits - 7) bytes (omega arith) (sym (decided_behind (b - 128) (groups_in (bits - 7) bytes)) ∙ ap is_decided (sym (at_more bits b bytes high long)) ∙ e) in
+          let same = sym (decided_behind (b - 128) (groups_in (bits - 7) bytes)) ∙ ap is_decided (sym (at_more bits b bytes high long)) in
+          let behind = short_few (bits - 7) bytes (omega arith) (same ∙ e) in
           omega (arith, behind)
     ]
 
@@ -117,7 +121,8 @@ least bytes whole before n len e =
 -- ---- spellings
 
 -- a low group in front of the spelling of what stands behind it
-spelled_behind : (b : ℕ) (tail : List ℕ) (n high : ℕ) → 128 ≤ b → b < 256 → 0 < high → n + 128 ≡ b + 128 * high → IsGroupNumber tail high → IsGroupNumber (b ∷ tail) n
+spelled_behind : (b : ℕ) (tail : List ℕ) (n high : ℕ) → 128 ≤ b → b < 256 → 0 < high → n + 128 ≡ b + 128 * high
+    → IsGroupNumber tail high → IsGroupNumber (b ∷ tail) n
 spelled_behind b [] n high more byte some sum spelled = absurd spelled
 spelled_behind b (c ∷ tail) n high more byte some sum spelled = (more, byte, high, some, sum, spelled)
 
@@ -143,7 +148,8 @@ spells (suc k) n lt =
     elim (cases_lt n 128) [
       | inl low ↦ spells_low (suc k) n low
       | inr high ↦ subst (λ (x : List ℕ). IsGroupNumber x n) (sym (groups_of_high k n high))
-          (spelled_behind (128 + n % 128) (groups_of k (n / 128)) n (n / 128) (omega arith) (omega arith) (omega arith) (omega arith) (spells k (n / 128) (rest_below k n lt)))
+          (spelled_behind (128 + n % 128) (groups_of k (n / 128)) n (n / 128)
+          (omega arith) (omega arith) (omega arith) (omega arith) (spells k (n / 128) (rest_below k n lt)))
     ]
 
 -- a number has one spelling
@@ -164,7 +170,8 @@ group_bytes_spell n lt = spells 9 n (omega arith)
 -- the bytes behind the first group are those of the rest
 pub group_bytes_step : (n : ℕ) → n < 2 ^ 64 → 128 ≤ n → group_bytes n ≡ (128 + n % 128) ∷ group_bytes (n / 128)
 group_bytes_step n lt high =
-    let same : groups_of 8 (n / 128) ≡ group_bytes (n / 128) = only 9 (groups_of 8 (n / 128)) (n / 128) (spells 8 (n / 128) (omega arith)) (omega arith) in
+    let spelled = spells 8 (n / 128) (omega arith) in
+    let same : groups_of 8 (n / 128) ≡ group_bytes (n / 128) = only 9 (groups_of 8 (n / 128)) (n / 128) spelled (omega arith) in
     groups_of_high 8 n high ∙ ap (λ (x : List ℕ). (128 + n % 128) ∷ x) same
 
 pub group_bytes_low : (n : ℕ) → n < 128 → group_bytes n ≡ n ∷ []
@@ -192,7 +199,8 @@ length_bounds n = length_groups 9 n
 -- ---- reading and writing
 
 -- a spelling is read, whatever follows it
-pub spelling_again : (bits : ℕ) (a rest : List ℕ) (n : ℕ) → IsGroupNumber a n → n < 2 ^ bits → groups_in bits (a ++ rest) ≡ Number n (length a)
+pub spelling_again : (bits : ℕ) (a rest : List ℕ) (n : ℕ) → IsGroupNumber a n → n < 2 ^ bits
+    → groups_in bits (a ++ rest) ≡ Number n (length a)
 spelling_again bits [] rest n h lt = absurd h
 spelling_again bits (b ∷ []) rest n h lt = at_last bits b rest h.0 (omega arith) ∙ ap (λ (x : ℕ). Number x 1) (sym h.1)
 spelling_again bits (b ∷ c ∷ bytes) rest n h lt =
@@ -214,7 +222,8 @@ pub record Spelled (bits : ℕ) (bytes : List ℕ) (n len : ℕ) : Type 0 where
   pub below : n < 2 ^ bits
   pub spelled : IsGroupNumber (take len bytes) n
 
-spelled_last : (bits b : ℕ) (bytes : List ℕ) (n len : ℕ) → b < 128 → b < 2 ^ bits → groups_in bits (b ∷ bytes) ≡ Number n len → Spelled bits (b ∷ bytes) n len
+spelled_last : (bits b : ℕ) (bytes : List ℕ) (n len : ℕ) → b < 128 → b < 2 ^ bits
+    → groups_in bits (b ∷ bytes) ≡ Number n len → Spelled bits (b ∷ bytes) n len
 spelled_last bits b bytes n len low fits e =
     let read = at_last bits b bytes low fits in
     let one : 1 ≡ len = cc in
@@ -244,7 +253,8 @@ pub read_spells : (bytes : List ℕ) (n len : ℕ) → IsBytes bytes → group_a
 read_spells bytes n len fits e = (spelled 64 bytes n len fits e).spelled
 
 -- the bytes of the number that is read are its own
-pub takes : (bytes : List ℕ) (n len : ℕ) → IsBytes bytes → group_at bytes ≡ Number n len → (len ≤ length bytes) × (take len bytes ≡ group_bytes n) × (n < 2 ^ 64)
+pub takes : (bytes : List ℕ) (n len : ℕ) → IsBytes bytes → group_at bytes ≡ Number n len
+    → (len ≤ length bytes) × (take len bytes ≡ group_bytes n) × (n < 2 ^ 64)
 takes bytes n len fits e =
     let s = spelled 64 bytes n len fits e in
     ((front 64 bytes n len (omega arith) e).within, only 9 (take len bytes) n s.spelled (omega (arith, s.below)), s.below)

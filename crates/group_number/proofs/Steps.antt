@@ -32,7 +32,8 @@ pub at_many : (bits b : ℕ) (bytes : List ℕ) → 128 ≤ b → bits ≤ 7 →
 unfolding groups_in
 at_many bits b bytes high few = rw (le-ltb b 128 high, le-leb bits 7 few) refl
 
-pub at_more : (bits b : ℕ) (bytes : List ℕ) → 128 ≤ b → 7 < bits → groups_in bits (b ∷ bytes) ≡ behind_group (b - 128) (groups_in (bits - 7) bytes)
+pub at_more : (bits b : ℕ) (bytes : List ℕ) → 128 ≤ b → 7 < bits
+    → groups_in bits (b ∷ bytes) ≡ behind_group (b - 128) (groups_in (bits - 7) bytes)
 unfolding groups_in
 at_more bits b bytes high long = rw (le-ltb b 128 high, lt-leb bits 7 long) refl
 

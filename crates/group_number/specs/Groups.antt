@@ -1,5 +1,5 @@
--- Group numbers: a whole number below 2^64 in groups of 7 bits, the least significant group first. Each byte but the last
--- has 128 above its group. The last group isn't 0 unless it is the only one, so each number has one spelling.
+-- Group numbers: a whole number below 2^64 in groups of 7 bits, the least significant group first. Each byte but the
+-- last has 128 above its group. The last group isn't 0 unless it is the only one, so each number has one spelling.
 use Rattle.std.specs.Prelude.{◌≡◌, ℕ, zero, suc, ◌+◌, ◌-◌, ◌*◌, ◌/◌, ◌%◌, ◌^◌, ◌<◌, ◌≤◌, nat_lt, nat_le, if◌then◌else◌}
 use Rattle.std.specs.Prelude.{Bool, true, false, List, [], ◌∷◌, slice_index_or}
 use Rattle.group_number.specs.declared.reading.GroupRead.{GroupRead}
@@ -9,12 +9,13 @@ use Rattle.group_number.specs.declared.reading.GroupRead.TheVariants.{Short, Bad
 abbrev pub IsBytes : List ℕ → Type 0
 IsBytes bytes = (i : ℕ) → slice_index_or bytes i 0 < 256
 
--- These bytes spell the number. A byte below 128 is the last, and stands for itself. One from 128 on has the low seven bits,
--- and the bytes behind it spell the rest, which isn't 0.
+-- These bytes spell the number. A byte below 128 is the last, and stands for itself. One from 128 on has the low
+-- seven bits, and the bytes behind it spell the rest, which isn't 0.
 abbrev pub IsGroupNumber : List ℕ → ℕ → Type 0
 IsGroupNumber [] n = ⊥
 IsGroupNumber (b ∷ []) n = (b < 128) × (n ≡ b)
-IsGroupNumber (b ∷ c ∷ bytes) n = (128 ≤ b) × (b < 256) × (high : ℕ) × (0 < high) × (n + 128 ≡ b + 128 * high) × IsGroupNumber (c ∷ bytes) high
+IsGroupNumber (b ∷ c ∷ bytes) n =
+    (128 ≤ b) × (b < 256) × (high : ℕ) × (0 < high) × (n + 128 ≡ b + 128 * high) × IsGroupNumber (c ∷ bytes) high
 
 -- a low group in front of what is read behind it. A last group of 0 is spare there.
 abbrev pub behind_group : ℕ → GroupRead → GroupRead

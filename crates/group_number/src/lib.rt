@@ -1,6 +1,7 @@
 //! Group numbers: whole numbers below 2^64 in groups of 7 bits, the least significant group first, as in LEB128.
 //!
-//! Each byte but the last has bit 7 set. The last byte isn't 0 unless it is the only one, so each number has one spelling.
+//! Each byte but the last has bit 7 set. The last byte isn't 0 unless it is the only one, so each number has one
+//! spelling.
 #![tactic(auto)]
 
 mod laws;
