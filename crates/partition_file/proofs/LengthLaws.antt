@@ -39,7 +39,7 @@ length-rows_bytes (suc n) v es low high sorted =
     ∙ omega (
       arith,
       length-append (row_bytes First c.row) (rows_bytes First n (v + 1) c.others),
-      length-row_bytes First c.row,
+      length-row_bytes c.row,
       length-rows_bytes n (v + 1) c.others c.above (higher v n c.others both.1) (ascends_others c.row c.others in-order),
       ap length c.parts,
       length-append c.row c.others,
