@@ -1,7 +1,7 @@
 -- A number that is read is the number that was written, and what was written is read again, whatever bytes follow.
 use Rattle.std.proofs.Common.{◌≡◌, ℕ, ◌+◌, ◌-◌, ◌^◌, ◌<◌, ◌≤◌, Bool, true, false, cond, ltb, List, [], ◌++◌, length, take, drop, refl, sym, ap, subst, ◌∙◌, append_assoc, arith, inl, inr, length-append}
 use Rattle.std.proofs.lemmas.Bool.{cases_lt, ltb-false, ltb-true, lt-ltb, le-ltb}
-use Rattle.std.proofs.lemmas.List.{take-append-drop, length-take, get_or-drop, get_or-take, get_or_past, drop_at, drop-append-le}
+use Rattle.std.proofs.lemmas.List.{take-append-drop, length-take, get_or-drop, get_or-take, get_or_past, drop_at, drop_all, drop-append-le}
 use Rattle.std.proofs.lemmas.Nat.{le_bytes_2, le_bytes_4, le_bytes_8}
 use Rattle.byteorder.specs.Endian.{little_number, little_bytes}
 use Rattle.byteorder.specs.Numbers.{little_from-append, little_number-reads_back, little_from-lt, length-bytes_low_first}
@@ -85,6 +85,17 @@ pub bad_on : (f : Format) (w : ℕ) (bytes rest : List ℕ) → number_in f w by
 bad_on First w bytes rest e = absurd (subst (IsLittle w bytes) e (little_is w bytes))
 bad_on Second w bytes rest e = groups.bad_stays bytes rest e
 
+-- a number stands in its bytes alone
+number_alone : (f : Format) (w : ℕ) (bytes : List ℕ) (n len : ℕ) → number_in f w bytes ≡ numbers.Number n len → number_in f w (take len bytes) ≡ numbers.Number n len
+number_alone First w bytes n len e =
+    let is = subst (IsLittle w bytes) e (little_is w bytes) in
+    let front : List ℕ = take w bytes in
+    let size : length front ≡ w = omega (arith, length-take w bytes, is.0) in
+    let same : little_number w front ≡ little_number w bytes = sym (ap (little_number w) (sym (take-append-drop w bytes)) ∙ little_from-append w front (drop w bytes) (omega arith)) in
+    ap (λ (k : ℕ). little_at w (take k bytes)) is.2 ∙ little_long w front (omega arith)
+    ∙ ap (λ (x : ℕ). numbers.Number x w) (same ∙ sym is.1) ∙ ap (numbers.Number n) (sym is.2)
+number_alone Second w bytes n len e = (groups.front 64 bytes n len (omega arith) e).alone
+
 -- how many bytes a number has
 pub number_len : (f : Format) (w : ℕ) (bytes : List ℕ) (n len : ℕ) → 0 < w → number_in f w bytes ≡ numbers.Number n len → (0 < len) × (len ≤ length bytes)
 number_len First w bytes n len some e = let is = subst (IsLittle w bytes) e (little_is w bytes) in (omega (arith, is.2), omega (arith, is.0, is.2))
@@ -117,6 +128,14 @@ leads_on f w place bytes rest next n len some e =
     let within = (number_len f w bytes n len some e).1 in
     ap (λ (r : GroupRead). number_leads r place (bytes ++ rest) next) (number_on f w bytes rest n len e)
     ∙ ap (next n (place + len)) (drop-append-le len bytes rest within)
+
+-- the same over the bytes of the number alone
+pub leads_here : (f : Format) (w place : ℕ) (bytes rest : List ℕ) (next : ℕ → Behind) (n len : ℕ) → 0 < w → number_in f w bytes ≡ numbers.Number n len
+    → number f w place (take len bytes ++ rest) next ≡ next n (place + len) rest
+leads_here f w place bytes rest next n len some e =
+    let within = (number_len f w bytes n len some e).1 in
+    leads_on f w place (take len bytes) rest next n len some (number_alone f w bytes n len e)
+    ∙ ap (λ (x : List ℕ). next n (place + len) (x ++ rest)) (drop_all len (take len bytes) (omega (arith, length-take len bytes)))
 
 -- ---- what was read is what is spelled
 

@@ -1,5 +1,5 @@
 -- A reader of a partition file that comes in pieces.
-use Rattle.std.specs.Prelude.{◌≡◌, ℕ, ◌+◌, ◌<◌, ◌≤◌, List, [], ◌++◌, length, drop, Option, Some, None, Result, Ok, Err, ◌⊎◌}
+use Rattle.std.specs.Prelude.{◌≡◌, ℕ, ◌+◌, ◌<◌, ◌≤◌, List, [], ◌++◌, length, take, Option, Some, None, Result, Ok, Err, ◌⊎◌}
 use Rattle.group_number.specs.declared.reading.GroupRead.{GroupRead}
 use Rattle.group_number.specs.declared.reading.GroupRead.TheVariants as numbers
 use Rattle.graph_words.specs.declared.types.Born.{Born}
@@ -76,6 +76,11 @@ FinishesReading old new _ = ⊥
 abbrev pub prepend : List Born → Found → Found
 prepend front f = record { edges = front ++ f.edges; fault = f.fault }
 
+-- from one field to a later one over these bytes: what the first gives stands behind the edges before as what the second gives behind those after
+abbrev pub LeadsTo : Expect → Stage → ℕ → List Born → List ℕ → Stage → ℕ → List Born → Type 0
+LeadsTo e s place before bytes t after behind =
+    (more : List ℕ) → prepend before (stage_at e s place (bytes ++ more)) ≡ prepend behind (stage_at e t after more)
+
 -- a whole piece was used, and its edges stand behind those before. A fault ends them.
 abbrev pub ReadsPiece : Reader → Reader → List Born → List Born → List ℕ → Option PartFault → Type 0
 ReadsPiece old new before after piece None = (more : List ℕ) → prepend before (rest_of old (piece ++ more)) ≡ prepend after (rest_of new more)
@@ -85,7 +90,7 @@ ReadsPiece old new before after piece (Some f) = (more : List ℕ) → prepend b
 abbrev pub Gives : {X : Type 0} → ((X → Behind) → Behind) → ℕ → List ℕ → Result (Option (X × ℕ)) PartFault → Type 0
 Gives read place bytes (Ok None) = Unit {0}
 Gives {X = X} read place bytes (Ok (Some (x, len))) = (0 < len) × (len ≤ length bytes)
-    × ((next : X → Behind) (rest : List ℕ) → read next place (bytes ++ rest) ≡ next x (place + len) (drop len bytes ++ rest))
+    × ((next : X → Behind) (rest : List ℕ) → read next place (take len bytes ++ rest) ≡ next x (place + len) rest)
 Gives {X = X} read place bytes (Err f) = (next : X → Behind) (rest : List ℕ) → read next place (bytes ++ rest) ≡ ends_with f
 
 -- what a rule that was asked leads to
@@ -104,3 +109,10 @@ abbrev pub CompletesField : Expect → Stage → ℕ → List ℕ → Option Com
 CompletesField e s place held None = field_in s held ≡ numbers.Short
 CompletesField e s place held (Some c) = IsCompleted e c
     × ((rest : List ℕ) → stage_at e s place (held ++ rest) ≡ completed_at e c (place + length held) rest)
+
+-- rows that lie whole in front of some bytes were taken, with their edges. How many bytes that is.
+pub record TakesRows (old new : Reader) (before after : List Born) (bytes : List ℕ) (used : ℕ) : Type 0 where
+  pub reads : ReadsPiece old new before after (take used bytes) None
+  pub within : used ≤ length bytes
+  pub taken : taken new ≤ taken old + used
+  pub few : length after ≤ length before + used

@@ -23,4 +23,4 @@ pub returns : goal.returns
 unfolding birth_at
 returns c =
     let read : number_in c.args.format 8 c.args.bytes.now ≡ numbers.Number c.in-Some.number c.in-Some.len = rw c.in-Some.is at c.in_ok-number.ensures in
-    rule_gives (birth_at c.args.expect.now c.args.format) c.args.format 8 c.args.place c.args.bytes.now (birth_then c.args.expect.now c.args.place) c.in-Some.number c.in-Some.len c.in_ok-birth.birth (omega arith) read (λ next rest. refl) c.in_ok-birth.ensures
+    rule_gives (birth_at c.args.expect.now c.args.format) c.args.format 8 c.args.place c.args.bytes.now (birth_then c.args.expect.now c.args.place) c.in-Some.number c.in-Some.len c.in_ok-birth.birth (omega arith) read (λ next all. refl) c.in_ok-birth.ensures

@@ -23,4 +23,4 @@ pub returns : goal.returns
 unfolding destination_at
 returns c =
     let read : number_in c.args.format 4 c.args.bytes.now ≡ numbers.Number c.in-Some.number c.in-Some.len = rw c.in-Some.is at c.in_ok-number.ensures in
-    rule_gives (destination_at c.args.expect.now c.args.format c.args.before c.args.label) c.args.format 4 c.args.place c.args.bytes.now (destination_then c.args.expect.now c.args.format c.args.before c.args.label c.args.place) c.in-Some.number c.in-Some.len c.in_ok-dst.dst (omega arith) read (λ next rest. refl) c.in_ok-dst.ensures
+    rule_gives (destination_at c.args.expect.now c.args.format c.args.before c.args.label) c.args.format 4 c.args.place c.args.bytes.now (destination_then c.args.expect.now c.args.format c.args.before c.args.label c.args.place) c.in-Some.number c.in-Some.len c.in_ok-dst.dst (omega arith) read (λ next all. refl) c.in_ok-dst.ensures

@@ -23,4 +23,4 @@ pub returns : goal.returns
 unfolding label_at
 returns c =
     let read : number_in c.args.format 2 c.args.bytes.now ≡ numbers.Number c.in-Some.number c.in-Some.len = rw c.in-Some.is at c.in_ok-number.ensures in
-    rule_gives (label_at c.args.expect.now c.args.format c.args.before) c.args.format 2 c.args.place c.args.bytes.now (label_then c.args.expect.now c.args.format c.args.before c.args.place) c.in-Some.number c.in-Some.len c.in_ok-label.label (omega arith) read (λ next rest. refl) c.in_ok-label.ensures
+    rule_gives (label_at c.args.expect.now c.args.format c.args.before) c.args.format 2 c.args.place c.args.bytes.now (label_then c.args.expect.now c.args.format c.args.before c.args.place) c.in-Some.number c.in-Some.len c.in_ok-label.label (omega arith) read (λ next all. refl) c.in_ok-label.ensures
