@@ -13,8 +13,8 @@ invariant_of-self c =
       partial = nothing_in c.in_ok-used.stage;
     })
 
-pub returns : goal.returns
-returns c =
+pub returns-clause-takes : goal.returns-clause-takes
+returns-clause-takes c =
     let i = c.self.inside in
     let none : take i.count i.held ≡ [] = rw (← c.self.view_is) at c.requires.start in
     let stage : i.stage ≡ stages.Label c.args.row = rw (← c.self.view_is) at c.requires.stage in
