@@ -75,8 +75,8 @@ const CHANGES: [(usize, u8, u64, FormKind); 24] = [
     (30, 1, 26, FormKind::BadNumber),
     (34, 4, 34, FormKind::BadNumber),
     (35, 0, 36, FormKind::BadLabel),
-    (35, 64, 36, FormKind::Short),
-    (35, 65, 36, FormKind::Short),
+    (35, 40, 36, FormKind::Short),
+    (35, 255, 36, FormKind::Short),
     (35, 39, 36, FormKind::BadLabel),
     (36, 0x20, 36, FormKind::BadLabel),
     (38, 0x53, 38, FormKind::RepeatedLabel),
@@ -129,16 +129,6 @@ fn each_field_of_a_second_partition_breaks_its_rule(rt: HostRuntime) {
 }
 
 #[test]
-fn a_label_that_is_too_long_may_be_cut(rt: HostRuntime) {
-    let mut bytes = TWO;
-    bytes[33] = 1;
-    bytes[35] = 97;
-    assert!(rt; breaks(rt.alloc(), &bytes, 36, FormKind::BadLabel));
-    bytes[35] = 98;
-    assert!(rt; breaks(rt.alloc(), &bytes, 36, FormKind::Short));
-}
-
-#[test]
 fn without_vertices_there_are_no_partitions(rt: HostRuntime) -> Result<(), Fail> {
     let mut bytes = TWO;
     bytes[13] = 0;
@@ -159,14 +149,14 @@ fn put(out: &mut Vec<u8>, width: usize, number: u64) -> Result<(), AllocError> {
     Ok(())
 }
 
-/// 1,000 labels of 64 bytes.
+/// 1,000 labels, each as long as a label can be.
 fn put_labels(out: &mut Vec<u8>) -> Result<(), AllocError> {
     put(out, 2, 1000)?;
     for i in 0..1000u16 {
-        put(out, 1, 64)?;
+        put(out, 1, 255)?;
         put(out, 1, u64::from(0x21 + i / 90))?;
         put(out, 1, u64::from(0x21 + i % 90))?;
-        out.extend_from_slice(&[0x7E; 62])?;
+        out.extend_from_slice(&[0x7E; 253])?;
     }
     Ok(())
 }
@@ -215,13 +205,13 @@ fn longest(alloc: Global) -> Result<Vec<u8>, AllocError> {
 fn the_longest_body_is_decoded_and_encoded_again(rt: HostRuntime) -> Result<(), Fail> {
     let alloc = rt.alloc();
     let mut bytes = longest(alloc)?;
-    assert_eq!(rt; bytes.len(), 1_117_709);
+    assert_eq!(rt; bytes.len(), 1_308_709);
     let (m, used) = decoded(alloc, &bytes)?;
-    assert_eq!(rt; used, 1_117_709);
+    assert_eq!(rt; used, 1_308_709);
     assert_eq!(rt; encode(alloc, &m)?.as_slice(), bytes.as_slice());
     let last = bytes.pop();
-    assert!(rt; breaks(alloc, &bytes, 1_117_702, FormKind::Short));
+    assert!(rt; breaks(alloc, &bytes, 1_308_702, FormKind::Short));
     bytes.push(last.map_or(0, |byte| byte | 1))?;
-    assert!(rt; breaks(alloc, &bytes, 1_117_702, FormKind::BadMark));
+    assert!(rt; breaks(alloc, &bytes, 1_308_702, FormKind::BadMark));
     Ok(())
 }
