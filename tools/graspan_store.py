@@ -71,7 +71,7 @@ class Manifest:
         self.round = slot.number(8, 1)
         self.vertices = slot.number(4, 0, 1 << 24)
         self.grammar_length, self.edges_length = slot.number(8, 0, 1 << 24), slot.number(8, 0, 1 << 40)
-        self.labels = [slot.take(slot.number(1, 1, 64)).decode('latin-1') for _ in range(slot.number(2, 0, FRESH))]
+        self.labels = [slot.take(slot.number(1, 1, 255)).decode('latin-1') for _ in range(slot.number(2, 0, FRESH))]
         if len(set(self.labels)) < len(self.labels) or not all('!' <= c <= '~' for c in ''.join(self.labels)):
             slot.refuse('a label is none, or stands twice')
         self.parts, at, lo = [], slot.at, 0

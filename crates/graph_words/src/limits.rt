@@ -4,7 +4,7 @@
 pub const MOST_VERTICES: usize = 16_777_216;
 
 /// How many bytes a label's name has at most.
-pub const MOST_LABEL_BYTES: usize = 64;
+pub const MOST_LABEL_BYTES: usize = 255;
 
 /// A grammar's text has at most so many bytes.
 pub const LONGEST_GRAMMAR: usize = 16_777_216;

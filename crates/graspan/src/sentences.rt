@@ -239,7 +239,7 @@ const EDGE_LINES: [(InputKind, &str, &str); 7] = [
     (
         InputKind::BadLabel,
         "1 2 \x1b[31m",
-        "graspan: x:2: '\\x1b[31m' is not a label (1 to 64 letters, digits or signs of ASCII)",
+        "graspan: x:2: '\\x1b[31m' is not a label (1 to 255 letters, digits or signs of ASCII)",
     ),
     (
         InputKind::LineTooLong,
@@ -252,7 +252,7 @@ const GRAMMAR_LINES: [(InputKind, &str, &str); 5] = [
     (
         InputKind::BadLabel,
         "A B \u{e4}",
-        "graspan: x:2: '\\xc3\\xa4' is not a label (1 to 64 letters, digits or signs of ASCII)",
+        "graspan: x:2: '\\xc3\\xa4' is not a label (1 to 255 letters, digits or signs of ASCII)",
     ),
     (
         InputKind::TooManyRules,

@@ -3,7 +3,7 @@ ghost use Rattle.std.specs.Prelude.{◌<◌, length};
 
 use crate::line::Line;
 use edge_text::vertex_number;
-use graph_words::{is_label, next_word};
+use graph_words::{MOST_LABEL_BYTES, is_label, next_word};
 use io_edge::{InputFile, InputKind};
 
 // The word with this number, counted from 0.
@@ -57,7 +57,9 @@ pub(crate) fn say_no_vertex(line: &mut Line, word: Option<&[u8]>, called: &str) 
 /// A word that should be a label.
 pub(crate) fn say_no_label(line: &mut Line, word: Option<&[u8]>) {
     say_word(line, word, "a word");
-    line.text(" is not a label (1 to 64 letters, digits or signs of ASCII)");
+    line.text(" is not a label (1 to ");
+    line.number(MOST_LABEL_BYTES as u64);
+    line.text(" letters, digits or signs of ASCII)");
 }
 
 // The line of an edge hasn't three words.

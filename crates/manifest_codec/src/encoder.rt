@@ -103,7 +103,7 @@ fn put_cells(out: &mut Vec<u8>, cells: &[u64]) -> Result<(), AllocError>
 
 /// The body's one spelling in the newest version, without its gate.
 ///
-/// The longest has 1,117,709 bytes.
+/// `longest_spelling` says how many bytes it has at the most.
 pub fn encode(alloc: Global, m: &Manifest) -> Result<Vec<u8>, AllocError>
     requires { FitsManifest m.now }
     ensures { IfOk result (λ v. v.items ≡ spelling newest_version m.now) }

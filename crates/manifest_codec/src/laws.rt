@@ -55,7 +55,7 @@ pub fn no_shared_spelling()
     ensures { (v : AVersion) (m other : AManifest) → FitsManifest m → FitsManifest other → spelling v m ≡ spelling v other → m ≡ other }
 {}
 
-/// A spelling has at most `longest` bytes, which are 1,117,709.
+/// A spelling has at most `longest` bytes, which are 1,308,709.
 pub fn longest_spelling()
     ensures { (v : AVersion) (m : AManifest) → FitsManifest m → length (spelling v m) ≤ longest }
 {}

@@ -46,8 +46,8 @@ fn a_grammar_is_refused_by_its_first_fault(rt: HostRuntime) -> Result<(), Fail> 
         (b"S", b" a", 65, Some((1, InputKind::RightTooLong))),
         (b"", b"S a\n", 1000, None),
         (b"", b"S a\n", 1001, Some((1001, InputKind::TooManyRules))),
-        (b"", b"a", 64, None),
-        (b"S a\n\n", b"a", 65, Some((3, InputKind::BadLabel))),
+        (b"", b"a", 255, None),
+        (b"S a\n\n", b"a", 256, Some((3, InputKind::BadLabel))),
         (b"", b"#", 4096, None),
         (b"", b"#", 4097, Some((1, InputKind::LineTooLong))),
         (
