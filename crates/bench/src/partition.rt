@@ -1,8 +1,9 @@
-//! Times the codec of partition files on one million edges.
+//! Times the codec of partition files on one million edges, in both formats.
 ghost use Rattle.std.specs.Prelude.{◌+◌, ◌<◌, ◌≤◌, ◌^◌, length};
 ghost use Rattle.partition_file.specs.Reader.{taken};
 
-use partition_file::{Expect, RowReader, RowStep, decode, encode};
+use graph_words::Born;
+use partition_file::{Expect, Partition, RowReader, decode, encode, encode_first, read_piece};
 use std::alloc::{AllocError, Global};
 use std::io;
 use std::rt::Clock;
@@ -32,50 +33,36 @@ fn bytes_of(alloc: Global) -> Result<Vec<u8>, AllocError> {
     Ok(bytes)
 }
 
-/// How many edges a piece ends, counted by a step for each.
-fn count_edges(reader: &mut RowReader, piece: &[u8]) -> u64
-    requires { taken reader.old + length piece.now < 2 ^ 64 }
-    ensures { taken reader.new ≤ taken reader.old + length piece.now }
-{
-    let mut count = 0u64;
-    let mut rest = piece;
-    'edges: loop {
-        let (used, step) = reader.next(rest);
-        let (_, behind) = rest.split_at(used);
-        rest = behind;
-        match step {
-            RowStep::Edge(_) => count = count.wrapping_add(1),
-            _ => return count,
-        }
-    }
-}
-
-/// How many edges the first 1,000 pieces of 65,536 bytes have.
-fn read_in_pieces(bytes: &[u8], expect: Expect) -> u64
+/// How many edges the pieces of 65,536 bytes have, at most 1,000 of them.
+fn read_in_pieces(alloc: Global, bytes: &[u8], expect: Expect) -> Result<u64, AllocError>
     requires { expect.lo < expect.hi }
 {
     let mut reader = RowReader::new(expect);
+    let mut edges: Vec<Born> = Vec::new(alloc);
     let mut count = 0u64;
     let mut rest = bytes;
     for i in 0..1000u64 {
         let (piece, behind) = rest.split_at(rest.len().min(65_536));
-        count = count.wrapping_add(count_edges(&mut reader, piece));
+        let _fault = read_piece(&mut reader, &mut edges, piece)?;
+        count = count.wrapping_add(edges.len() as u64);
+        edges.clear();
         rest = behind;
     }
-    count
+    Ok(count)
 }
 
-/// One round of all three, with its times in microseconds.
+/// One round over a partition's bytes, with its times in microseconds. Answers how many edges its pieces have.
 fn time_round(
     rt: &(impl Clock + Print + Eprint),
     alloc: Global,
+    format: &str,
     bytes: &[u8],
     expect: Expect,
 ) -> io::Result<()>
     requires { expect.lo < expect.hi }
 {
     let start = Instant::now(rt)?;
-    let count = read_in_pieces(bytes, expect);
+    let count = read_in_pieces(alloc, bytes, expect)?;
     let reader = start.elapsed(rt)?.as_micros();
     let start = Instant::now(rt)?;
     let decoded = decode(alloc, bytes, &expect);
@@ -84,11 +71,20 @@ fn time_round(
         return println!(rt; "not decoded");
     };
     let start = Instant::now(rt)?;
-    let again = encode(alloc, &part)?;
+    let again = encoded(alloc, format, &part)?;
     let encoder = start.elapsed(rt)?.as_micros();
-    eprintln!(rt; "reader {reader} decode {decoder} encode {encoder}")?;
+    eprintln!(rt; "{format} reader {reader} decode {decoder} encode {encoder}")?;
     let same = again.as_slice() == bytes;
-    println!(rt; "{count} edges, the same bytes: {same}")
+    println!(rt; "{format}: {count} edges, the same bytes: {same}")
+}
+
+/// The bytes of a partition in the format that is named.
+fn encoded(alloc: Global, format: &str, part: &Partition) -> Result<Vec<u8>, AllocError> {
+    if format == "first" {
+        encode_first(alloc, part)
+    } else {
+        encode(alloc, part)
+    }
 }
 
 /// Times the codec, round by round.
@@ -102,9 +98,14 @@ pub(crate) fn measure<R: AllocGlobal + Clock + Print + Eprint>(rt: &R) -> io::Re
         named: ROW_LEN,
         fresh: 0,
     };
-    let bytes = bytes_of(alloc)?;
+    let first = bytes_of(alloc)?;
+    let Ok(part) = decode(alloc, &first, &expect) else {
+        return println!(rt; "not decoded");
+    };
+    let second = encode(alloc, &part)?;
     for _ in 0..ROUNDS {
-        time_round(rt, alloc, &bytes, expect)?;
+        time_round(rt, alloc, "first", &first, expect)?;
+        time_round(rt, alloc, "second", &second, expect)?;
     }
     Ok(())
 }
