@@ -42,7 +42,8 @@ def look(program, store):
         wrong("parts ended with status %d: %s%s" % (asked.returncode, asked.stdout, asked.stderr))
     lines = [line.split() for line in asked.stdout.splitlines()]
     parts = [[int(word) for word in line[1:]] for line in lines if line[0] == "part"]
-    return Seen(True, round_of(store), [part[:3] for part in parts], [part[3] for part in parts], lines[-1] == ["finished"])
+    bounds, edges = [part[:3] for part in parts], [part[3] for part in parts]
+    return Seen(True, round_of(store), bounds, edges, lines[-1] == ["finished"])
 
 
 def goes_on(before, after):
@@ -55,7 +56,8 @@ def goes_on(before, after):
 class Killer:
     def __init__(self, program, data, folder, seed):
         self.program, self.folder, self.pick = program, folder, random.Random(seed)
-        self.words = ["run", os.path.join(data, "less-search.edges"), os.path.join(data, "alias.grammar"), "--part-edges", "491"]
+        files = [os.path.join(data, name) for name in ("less-search.edges", "alias.grammar")]
+        self.words = ["run"] + files + ["--part-edges", "491"]
         begin = time.monotonic()
         self.whole = self.run(os.path.join(folder, "whole"), None)
         # how long the last run took that was never killed
@@ -117,8 +119,10 @@ def main():
             done, runs = done + len(seen), runs + 1
             states.update(state(one) for one in seen)
             rounds.update(one.round for one in seen if one.imported)
-            print("%d kills, %d runs ended: the same output; rounds %s" % (done, runs, [one.round for one in seen]), flush=True)
-        print("%d kills, at %d rounds: %s" % (done, len(rounds), ", ".join("%d %s" % (n, s) for s, n in states.most_common())))
+            met = [one.round for one in seen]
+            print("%d kills, %d runs ended: the same output; rounds %s" % (done, runs, met), flush=True)
+        kinds = ", ".join("%d %s" % (number, kind) for kind, number in states.most_common())
+        print("%d kills, at %d rounds: %s" % (done, len(rounds), kinds))
     finally:
         shutil.rmtree(folder, ignore_errors=True)
 

@@ -58,7 +58,8 @@ def main():
         if status != 0:
             wrong("a run that is alone ended with status %d: %s" % (status, said))
         for number in range(1, often + 1):
-            print("pair %d: one was refused and %s; the other is right" % (number, pair(program, folder, words, alone)), flush=True)
+            how = pair(program, folder, words, alone)
+            print("pair %d: one was refused and %s; the other is right" % (number, how), flush=True)
         status, again, said = end(start(program, os.path.join(folder, "pair"), words))
         if (status, again) != (0, alone):
             wrong("a run after both ended with status %d: %s" % (status, said))

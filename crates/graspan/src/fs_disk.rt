@@ -156,8 +156,8 @@ impl<'a, R: Files<File = File> + AllocGlobal + Clock + Eprint> FsDisk<'a, R> {
         }
     }
 
-    // Holds the lock on the folder from now on, or fails. What was refused once stays refused, since the files that were
-    // read may have changed since.
+    // Holds the lock on the folder from now on, or fails. What was refused once stays refused, since files that were read
+    // may have changed meanwhile.
     fn hold_lock(&mut self) -> io::Result<()>
         ensures faults { self.new.faults ≡ self.old.faults }
     {
