@@ -19,7 +19,8 @@ pub(crate) enum FolderLock {
 fn place_of<R: AllocGlobal>(rt: &R, file: &File) -> Option<String> {
     let metadata = file.metadata().ok()?;
     let device = metadata.dev();
-    let (major, minor) = ((device >> 8) & 0xfff, (device & 0xff) | ((device >> 12) & 0xfff00));
+    let major = (device >> 8) & 0xfff;
+    let minor = (device & 0xff) | ((device >> 12) & 0xfff00);
     format!(in rt.alloc(); "{major:02x}:{minor:02x}:{}", metadata.ino()).ok()
 }
 

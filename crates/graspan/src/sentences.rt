@@ -408,7 +408,14 @@ fn the_system_says_why(rt: HostRuntime) {
         "graspan: the folder store can't be read or written: no space is left on the disk; once it can, run again, and it goes on",
     );
     for (process, wanted) in LOCKED {
-        said(&rt, Fault::Locked { folder: "store", process }, wanted);
+        said(
+            &rt,
+            Fault::Locked {
+                folder: "store",
+                process,
+            },
+            wanted,
+        );
     }
     said(
         &rt,

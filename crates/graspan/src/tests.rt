@@ -71,7 +71,10 @@ fn the_first_sync_keeps_the_slots(rt: HostRuntime) -> Result<(), Fail> {
     let mut disk = FsDisk::new(&rt, "graspan_test_slots", &progress);
     assert_eq!(rt; disk.sync(), Ok(()));
     assert_eq!(rt; disk.sync(), Ok(()));
-    assert_eq!(rt; fs::read(&rt, "graspan_test_slots/g0000")?.as_slice(), bytes.as_slice());
+    assert_eq!(rt;
+        fs::read(&rt, "graspan_test_slots/g0000")?.as_slice(),
+        bytes.as_slice()
+    );
     assert!(rt; !fs::exists(&rt, "graspan_test_slots/g0001")?);
     fs::remove_file(&rt, "graspan_test_slots/g0000")?;
     fs::remove_dir(&rt, "graspan_test_slots")?;
