@@ -4,6 +4,7 @@ ghost use Rattle.std.proofs.lemmas.Bool.{false≢true};
 ghost use Rattle.faults.specs.Counts.{HasFailed};
 
 use crate::failure::Reason;
+use crate::folder_lock::{FolderLock, lock_folder};
 use crate::heading::heading_of;
 use crate::progress::Progress;
 use disk_model::{Disk, Failed};
@@ -21,6 +22,9 @@ const SLOTS: u32 = 2;
 
 const BODY: u64 = 1;
 
+/// The bytes that are written again at a time.
+const PIECE: usize = 4096;
+
 /// The first file that may hold a partition.
 const FIRST_PARTITION: u32 = 4;
 
@@ -34,14 +38,18 @@ struct Held<F: Drop> {
 
 /// A folder with the files `g0000` to `g1023`. A file that isn't there is an empty one.
 ///
-/// The one that was used last is kept open. Each call of a disk whose folder couldn't be made fails.
+/// The one that was used last is kept open. Each call of a disk whose folder couldn't be made fails. The first call
+/// that changes a file or syncs locks the folder until the disk is gone; where another process holds the lock, this and
+/// each such call fails. Calls that only read want no lock.
 #[derive(Drop)]
-pub(crate) struct FsDisk<'a, R: Files + AllocGlobal + Clock + Eprint> {
+pub(crate) struct FsDisk<'a, R: Files<File = File> + AllocGlobal + Clock + Eprint> {
     rt: &'a R,
     folder: Option<String>,
+    lock: FolderLock,
     last: Option<Held<R::File>>,
     // The files that may have changed since the last sync: all of them before the first one.
     unsynced: [bool; 1024],
+    has_synced: bool,
     faults: u64,
     // What a person is told of a call that failed.
     reason: Reason,
@@ -73,6 +81,23 @@ fn read_on<F: Read>(file: &mut F, buf: &mut [u8]) -> io::Result<usize>
     Ok(done)
 }
 
+// Writes a piece of a file again at its place.
+fn rewrite_piece<F: Read + Write + Seek>(file: &mut F, at: u64) -> io::Result<()> {
+    let mut buf = [0u8; PIECE];
+    file.seek(SeekFrom::Start(at))?;
+    let n = read_on(file, &mut buf)?;
+    file.seek(SeekFrom::Start(at))?;
+    file.write_all(&buf[..n])
+}
+
+// Writes each piece of a file of this length again at its place.
+fn rewrite_all<F: Read + Write + Seek>(file: &mut F, len: u64) -> io::Result<()> {
+    for piece in 0..len.div_ceil(PIECE as u64) {
+        rewrite_piece(file, piece.saturating_mul(PIECE as u64))?;
+    }
+    Ok(())
+}
+
 // None where the file isn't there.
 fn if_there<T: Drop>(opened: io::Result<T>) -> io::Result<Option<T>> {
     match opened {
@@ -82,7 +107,7 @@ fn if_there<T: Drop>(opened: io::Result<T>) -> io::Result<Option<T>> {
     }
 }
 
-impl<'a, R: Files + AllocGlobal + Clock + Eprint> FsDisk<'a, R> {
+impl<'a, R: Files<File = File> + AllocGlobal + Clock + Eprint> FsDisk<'a, R> {
     /// The disk in this folder, which is made where it isn't there.
     pub(crate) fn new(rt: &'a R, path: &str, progress: &'a Progress<'a, R>) -> Self {
         let mut disk = Self::without_folder(rt, progress);
@@ -98,8 +123,10 @@ impl<'a, R: Files + AllocGlobal + Clock + Eprint> FsDisk<'a, R> {
         FsDisk {
             rt,
             folder: None,
+            lock: FolderLock::Unasked,
             last: None,
             unsynced: [true; FILES],
+            has_synced: false,
             faults: 0,
             reason: Reason::none(),
             progress,
@@ -116,12 +143,37 @@ impl<'a, R: Files + AllocGlobal + Clock + Eprint> FsDisk<'a, R> {
         self.reason
     }
 
-    // The path of a file.
-    fn path(&self, number: u32) -> io::Result<String> {
+    /// What is known of the lock on the folder.
+    pub(crate) fn lock(&self) -> &FolderLock {
+        &self.lock
+    }
+
+    // The path of the folder.
+    fn folder(&self) -> io::Result<&str> {
         match &self.folder {
-            Some(folder) => Ok(format!(in self.rt.alloc(); "{folder}/g{number:04}")?),
+            Some(folder) => Ok(folder.as_str()),
             None => Err(io::Error::from(ErrorKind::InvalidInput)),
         }
+    }
+
+    // Holds the lock on the folder from now on, or fails. What was refused once stays refused, since files that were read
+    // may have changed meanwhile.
+    fn hold_lock(&mut self) -> io::Result<()>
+        ensures faults { self.new.faults ≡ self.old.faults }
+    {
+        if let FolderLock::Unasked = self.lock {
+            self.lock = lock_folder(self.rt, self.folder()?)?;
+        }
+        match self.lock {
+            FolderLock::Held(_) => Ok(()),
+            _ => Err(io::Error::from(ErrorKind::WouldBlock)),
+        }
+    }
+
+    // The path of a file.
+    fn path(&self, number: u32) -> io::Result<String> {
+        let folder = self.folder()?;
+        Ok(format!(in self.rt.alloc(); "{folder}/g{number:04}")?)
     }
 
     // Opens a file, which is made only where it is to be written.
@@ -188,6 +240,7 @@ impl<'a, R: Files + AllocGlobal + Clock + Eprint> FsDisk<'a, R> {
         if bytes.is_empty() {
             return Ok(());
         }
+        self.hold_lock()?;
         self.note(number);
         let mut held = self.held(number, true)?;
         held.file.seek(SeekFrom::Start(at))?;
@@ -204,6 +257,7 @@ impl<'a, R: Files + AllocGlobal + Clock + Eprint> FsDisk<'a, R> {
         if self.len_of(number)? <= len {
             return Ok(());
         }
+        self.hold_lock()?;
         self.note(number);
         let held = self.held(number, true)?;
         held.file.set_len(len)?;
@@ -228,6 +282,35 @@ impl<'a, R: Files + AllocGlobal + Clock + Eprint> FsDisk<'a, R> {
         }
     }
 
+    // Writes the bytes of a file again as they read.
+    fn write_again(&mut self, number: u32) -> io::Result<()>
+        ensures faults { self.new.faults ≡ self.old.faults }
+    {
+        let len = self.len_of(number)?;
+        if len > 0 {
+            let mut held = self.held(number, true)?;
+            rewrite_all(&mut held.file, len)?;
+            self.last = Some(held);
+        }
+        Ok(())
+    }
+
+    // Writes the slots of the manifest again before the first sync that succeeds.
+    //
+    // Where a sync of an earlier run failed, the system may have kept what it couldn't write as if it were written:
+    // reads give it, and no later sync takes it to the disk. Then this run would read a slot that a power cut takes
+    // away, and close the other one. Bytes that are written again are synced again. Other files need none of it: a
+    // manifest names them only after a sync that succeeded.
+    fn refresh_slots(&mut self) -> io::Result<()>
+        ensures faults { self.new.faults ≡ self.old.faults }
+    {
+        if !self.has_synced {
+            self.write_again(0)?;
+            self.write_again(1)?;
+        }
+        Ok(())
+    }
+
     // Syncs a file, where it is there.
     fn sync_file(&mut self, number: u32) -> io::Result<()>
         requires { number < 1024 }
@@ -243,10 +326,18 @@ impl<'a, R: Files + AllocGlobal + Clock + Eprint> FsDisk<'a, R> {
 
     // Syncs the folder, so that it knows its files.
     fn sync_folder(&self) -> io::Result<()> {
-        match &self.folder {
-            Some(folder) => File::open(self.rt, folder.as_str())?.sync_all(),
-            None => Err(io::Error::from(ErrorKind::InvalidInput)),
-        }
+        File::open(self.rt, self.folder()?)?.sync_all()
+    }
+
+    // Syncs under the lock.
+    fn sync_held(&mut self) -> io::Result<()>
+        ensures faults { self.new.faults ≡ self.old.faults }
+    {
+        self.hold_lock()?;
+        self.refresh_slots()?;
+        self.sync_all()?;
+        self.has_synced = true;
+        Ok(())
     }
 
     // Syncs each file that may have changed since the last sync, and the folder.
@@ -271,7 +362,7 @@ impl<'a, R: Files + AllocGlobal + Clock + Eprint> FsDisk<'a, R> {
     }
 }
 
-impl<R: Files + AllocGlobal + Clock + Eprint> Disk for FsDisk<'_, R> {
+impl<R: Files<File = File> + AllocGlobal + Clock + Eprint> Disk for FsDisk<'_, R> {
     ghost tells = { false };
 
     ghost seen = { λ disk f. [] };
@@ -323,7 +414,7 @@ impl<R: Files + AllocGlobal + Clock + Eprint> Disk for FsDisk<'_, R> {
     }
 
     fn sync(&mut self) -> Result<(), Failed> {
-        match self.sync_all() {
+        match self.sync_held() {
             Ok(()) => Ok(()),
             Err(e) => Err(self.fail(e)),
         }

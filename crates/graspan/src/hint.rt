@@ -1,4 +1,5 @@
 //! What a person is told of a fault, on standard error.
+use crate::folder_lock::FolderLock;
 use crate::fs_disk::FsDisk;
 use crate::fs_inputs::FsInputs;
 use crate::line_text::line_of;
@@ -7,6 +8,7 @@ use graspan_top::Status;
 use hints::{Fault, sentence};
 use io_edge::{InputFile, InputKind, WordList};
 use std::alloc::Global;
+use std::fs::File;
 use std::rt::Files;
 use std::time::Clock;
 
@@ -61,12 +63,14 @@ fn read_fault<'a, R: Files + AllocGlobal + Clock + Eprint>(
     }
 }
 
-fn disk_fault<'a, R: Files + AllocGlobal + Clock + Eprint>(
+fn disk_fault<'a, R: Files<File = File> + AllocGlobal + Clock + Eprint>(
     folder: &'a str,
     disk: &FsDisk<'_, R>,
 ) -> Fault<'a> {
     let reason = disk.reason().kind();
-    if disk.is_there() {
+    if let FolderLock::Refused(process) = *disk.lock() {
+        Fault::Locked { folder, process }
+    } else if disk.is_there() {
         Fault::Disk { folder, reason }
     } else {
         Fault::Folder { folder, reason }
@@ -74,7 +78,7 @@ fn disk_fault<'a, R: Files + AllocGlobal + Clock + Eprint>(
 }
 
 /// Tells a person how a command ended. Where it is done nothing is said.
-pub(crate) fn tell<'a, R: Files + AllocGlobal + Clock + Eprint>(
+pub(crate) fn tell<'a, R: Files<File = File> + AllocGlobal + Clock + Eprint>(
     rt: &R,
     folder: &'a str,
     words: &'a WordList,

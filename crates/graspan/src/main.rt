@@ -3,6 +3,7 @@
 
 mod clear_sink;
 mod failure;
+mod folder_lock;
 mod fs_disk;
 mod fs_inputs;
 mod heading;
@@ -49,7 +50,7 @@ fn refuse<O: Sink>(out: &mut O, line: &str, status: Status) -> Status {
 }
 
 /// The disk of a command. Where it asks for no store, or the words have no reading, no folder is made.
-fn disk_of<'a, R: Files + AllocGlobal + Clock + Eprint>(
+fn disk_of<'a, R: Files<File = File> + AllocGlobal + Clock + Eprint>(
     rt: &'a R,
     folder: &str,
     words: &WordList,
@@ -63,7 +64,7 @@ fn disk_of<'a, R: Files + AllocGlobal + Clock + Eprint>(
 }
 
 /// Carries out a command on the store in a folder, and tells a person what it ended with.
-fn carry_out<R: Files + AllocGlobal + Clock + Eprint, O: Sink>(
+fn carry_out<R: Files<File = File> + AllocGlobal + Clock + Eprint, O: Sink>(
     rt: &R,
     folder: &str,
     words: &WordList,
@@ -84,7 +85,7 @@ fn carry_out<R: Files + AllocGlobal + Clock + Eprint, O: Sink>(
 }
 
 /// Carries out what the words say. The first one is the folder of the store, or the only one asks for help.
-fn start<R: Files + AllocGlobal + Clock + Eprint, O: Sink>(
+fn start<R: Files<File = File> + AllocGlobal + Clock + Eprint, O: Sink>(
     rt: &R,
     given: &ProgramWords,
     progress: &Progress<'_, R>,

@@ -377,6 +377,17 @@ fn a_store_says_what_to_do(rt: HostRuntime) {
     );
 }
 
+const LOCKED: [(Option<u32>, &str); 2] = [
+    (
+        Some(4711),
+        "graspan: store: process 4711 runs here, and a store takes one run at a time; run again when it has ended",
+    ),
+    (
+        None,
+        "graspan: store: another process runs here, and a store takes one run at a time; run again when it has ended",
+    ),
+];
+
 // What is said where the system refused something.
 #[test]
 fn the_system_says_why(rt: HostRuntime) {
@@ -396,6 +407,16 @@ fn the_system_says_why(rt: HostRuntime) {
         },
         "graspan: the folder store can't be read or written: no space is left on the disk; once it can, run again, and it goes on",
     );
+    for (process, wanted) in LOCKED {
+        said(
+            &rt,
+            Fault::Locked {
+                folder: "store",
+                process,
+            },
+            wanted,
+        );
+    }
     said(
         &rt,
         Fault::Memory,

@@ -1,3 +1,4 @@
+use crate::folder_lock::FolderLock;
 use crate::fs_disk::FsDisk;
 use crate::fs_inputs::FsInputs;
 use crate::progress::{Progress, Shown};
@@ -54,5 +55,52 @@ fn a_disk_without_a_folder_fails(rt: HostRuntime) -> Result<(), Fail> {
     assert!(rt; disk.len(4).is_err());
     assert!(rt; disk.sync().is_err());
     fs::remove_file(&rt, "graspan_test_file2")?;
+    Ok(())
+}
+
+// The first sync writes the slots again: their bytes stay, also where they fill more than one piece, and none is made.
+#[test]
+fn the_first_sync_keeps_the_slots(rt: HostRuntime) -> Result<(), Fail> {
+    let mut bytes = [b'x'; 5000];
+    bytes[0] = 1;
+    bytes[4096] = b'y';
+    bytes[4999] = b'z';
+    fs::create_dir(&rt, "graspan_test_slots")?;
+    fs::write(&rt, "graspan_test_slots/g0000", &bytes)?;
+    let progress = Progress::new(&rt, Shown::Nowhere);
+    let mut disk = FsDisk::new(&rt, "graspan_test_slots", &progress);
+    assert_eq!(rt; disk.sync(), Ok(()));
+    assert_eq!(rt; disk.sync(), Ok(()));
+    assert_eq!(rt;
+        fs::read(&rt, "graspan_test_slots/g0000")?.as_slice(),
+        bytes.as_slice()
+    );
+    assert!(rt; !fs::exists(&rt, "graspan_test_slots/g0001")?);
+    fs::remove_file(&rt, "graspan_test_slots/g0000")?;
+    fs::remove_dir(&rt, "graspan_test_slots")?;
+    Ok(())
+}
+
+// The first change locks the folder while its disk is there. Another disk of it is read, and refuses changes.
+#[test]
+fn a_folder_takes_one_run(rt: HostRuntime) -> Result<(), Fail> {
+    let progress = Progress::new(&rt, Shown::Nowhere);
+    let mut first = FsDisk::new(&rt, "graspan_test_lock", &progress);
+    let mut second = FsDisk::new(&rt, "graspan_test_lock", &progress);
+    assert_eq!(rt; first.len(4), Ok(0));
+    assert!(rt; matches!(first.lock(), FolderLock::Unasked));
+    assert_eq!(rt; first.write_at(4, 0, b"a"), Ok(()));
+    assert!(rt; matches!(first.lock(), FolderLock::Held(_)));
+    assert!(rt; second.sync().is_err());
+    assert!(rt; matches!(second.lock(), FolderLock::Refused(_)));
+    assert!(rt; second.write_at(4, 0, b"b").is_err());
+    assert!(rt; second.cut(4, 0).is_err());
+    assert_eq!(rt; second.len(4), Ok(1));
+    drop(first);
+    assert!(rt; second.sync().is_err());
+    let mut third = FsDisk::new(&rt, "graspan_test_lock", &progress);
+    assert_eq!(rt; third.sync(), Ok(()));
+    fs::remove_file(&rt, "graspan_test_lock/g0004")?;
+    fs::remove_dir(&rt, "graspan_test_lock")?;
     Ok(())
 }

@@ -42,6 +42,11 @@ pub enum Fault<'a> {
         folder: &'a str,
         reason: Option<ErrorKind>,
     },
+    /// Another process works in the store's folder: its number, where that is known.
+    Locked {
+        folder: &'a str,
+        process: Option<u32>,
+    },
     /// Standard output couldn't be written.
     Output {
         folder: &'a str,

@@ -2,7 +2,7 @@
 use crate::fault::Fault;
 use crate::line::Line;
 use crate::reason::say_reason;
-use crate::store::{say_damage, say_no_store, say_output, say_unfinished};
+use crate::store::{say_damage, say_locked, say_no_store, say_output, say_unfinished};
 use crate::text::{say_input, say_other};
 use crate::words::{say_not_known, say_words};
 use std::io::ErrorKind;
@@ -74,6 +74,7 @@ fn say(line: &mut Line, fault: Fault<'_>) {
         Fault::Read { name, reason } => say_read(line, name, reason),
         Fault::Folder { folder, reason } => say_folder(line, folder, reason),
         Fault::Disk { folder, reason } => say_disk(line, folder, reason),
+        Fault::Locked { folder, process } => say_locked(line, folder, process),
         Fault::Output { folder } => say_output(line, folder),
         Fault::Memory => say_memory(line),
         Fault::Store {

@@ -68,6 +68,20 @@ pub(crate) fn say_unfinished(line: &mut Line, folder: &str) {
     );
 }
 
+/// Another process works in the store's folder.
+pub(crate) fn say_locked(line: &mut Line, folder: &str, process: Option<u32>) {
+    line.path(folder);
+    line.text(": ");
+    match process {
+        Some(number) => {
+            line.text("process ");
+            line.number(u64::from(number));
+        }
+        None => line.text("another process"),
+    }
+    line.text(" runs here, and a store takes one run at a time; run again when it has ended");
+}
+
 /// Standard output couldn't be written.
 pub(crate) fn say_output(line: &mut Line, folder: &str) {
     line.text("standard output couldn't be written to its end; the store in ");
