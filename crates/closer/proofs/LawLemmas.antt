@@ -31,7 +31,7 @@ retains_store t d c m parts s r = store_kept t d c m parts r.same r.files s
 
 -- ---- steps
 
-steps_hold : (n : Normal) (g : Graph) (k : ℕ) (s after : State) → IsTask n g → IsClosingState n g s → AfterSteps n k s after → IsClosingState n g after
+pub steps_hold : (n : Normal) (g : Graph) (k : ℕ) (s after : State) → IsTask n g → IsClosingState n g s → AfterSteps n k s after → IsClosingState n g after
 steps_hold n g zero s after task holds same = subst (IsClosingState n g) (sym same) holds
 steps_hold n g (suc k) s after task holds steps =
     let st : IsWholePass n steps.0 after = steps.2 in

@@ -15,3 +15,5 @@ pub mod Rooming
 pub mod Closings
 pub mod SameTexts
 pub mod Blameless
+pub mod Keeping
+pub mod Passes

@@ -9,3 +9,4 @@ pub mod ShowLemmas
 pub mod TextLemmas
 pub mod CommandLemmas
 pub mod EmitLemmas
+pub mod RowLemmas

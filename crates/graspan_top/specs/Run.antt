@@ -12,7 +12,6 @@ use Rattle.grammar_norm.specs.GrammarText.{grammar_fault, grammar_names}
 use Rattle.normal_law.specs.NormalForm.{normal_form}
 use Rattle.closing_machine.specs.Parts.{all_edges}
 use Rattle.disk_model.specs.Disk.{Contents}
-use Rattle.disk_model.specs.Crash.{LeavesOnly}
 use Rattle.faults.specs.declared.form_kind.FormKind.{FormKind}
 use Rattle.manifest_codec.specs.declared.types.Manifest.{Manifest}
 use Rattle.manifest_switch.specs.declared.slot.Slot.{Slot}
@@ -89,15 +88,6 @@ pub record IsOpenedAs (x : Given) (edges grammar : List ℕ) (seen : Contents) (
 -- the contents with which the closing begins: those from before, but for the slots, or a store that was made on a blank disk
 abbrev pub BeginsWith : Given → Contents → Type 0
 BeginsWith x seen = (current_of x.before ≡ Ok Blank) ⊎ Stays x.before seen
-
--- ---- what a stopped run leaves
-
--- Where each image at the start is blank or what stopped runs of these files leave, so is each that a crash may leave at any moment since.
-abbrev pub StopsLeave : {D : Type 0} → (D → Contents → Type 0) → (D → ℕ) → (D → ℕ → Contents → Type 0)
-    → (List ℕ → Option (List ℕ)) → List ℕ → List ℕ → D → D → Type 0
-StopsLeave images moment left_since told edges grammar old new = (g e : List ℕ) → told grammar ≡ Some g
-    → told edges ≡ Some e → ((c : Contents) → images old c → IsLeft (texts_of g e) c)
-    → LeavesOnly moment left_since old new (IsLeft (texts_of g e))
 
 -- ---- the order in which a run refuses, stage by stage
 

@@ -18,8 +18,8 @@ ghost use Rattle.graspan_top.specs.Given.{Given as AGiven};
 ghost use Rattle.graspan_top.specs.Printed.{Begins, IsNothingOr, PrintsFirst, status_of};
 ghost use Rattle.graspan_top.specs.Refusals.{Explained, Refuses, rises_in, rises_of};
 ghost use Rattle.graspan_top.specs.Run.{IsRunBegun, IsRunText, closed_stages, done_line, run_stages};
-ghost use Rattle.graspan_top.specs.Call.{MayBeStopped};
 ghost use Rattle.graspan_top.specs.Stages.{IsReady, IsShowBegun, show_stages, shown_text};
+ghost use Rattle.graspan_top.specs.Stops.{KeepsWork, Spares};
 
 use crate::labels::shown_number;
 use crate::ready_store::{Files, ready_store};
@@ -123,7 +123,9 @@ fn closed_store<I: Inputs, D: Disk>(
     ensures refused { IfErr result (Refuses (closed_stages
         (record { told = I.told inputs.old; tells = D.tells; before = D.seen disk.old }) files.now.edges.now
         files.now.grammar.now (D.seen disk.new) (rises_in I.Inputs D.Disk inputs.old inputs.new disk.old disk.new))) }
-    ensures stops { MayBeStopped D.Disk (I.told inputs.old) files.now.edges.now files.now.grammar.now disk.old disk.new }
+    ensures stops { KeepsWork D.Disk (I.told inputs.old) files.now.edges.now files.now.grammar.now disk.old disk.new }
+    ensures spares { Spares D.Disk (record { told = I.told inputs.old; tells = D.tells; before = D.seen disk.old })
+        files.now.edges.now files.now.grammar.now (status_of result) disk.old disk.new }
     ensures keeps { KeepsInputs I.Inputs inputs.old inputs.new }
     ensures later { D.faults disk.old ≤ D.faults disk.new }
 {
@@ -152,7 +154,9 @@ pub(crate) fn run<I: Inputs, D: Disk, O: Sink>(
         → I.told inputs.old files.now.edges.now ≡ Some e → IsLeft (texts_of g e) (D.seen disk.old)
         → status_of result ≡ Done
         → AreExact (texts_of g e) (D.seen disk.new) × ((c : Contents) → D.may_leave disk.new c → AreExact (texts_of g e) c) }
-    ensures stops { MayBeStopped D.Disk (I.told inputs.old) files.now.edges.now files.now.grammar.now disk.old disk.new }
+    ensures stops { KeepsWork D.Disk (I.told inputs.old) files.now.edges.now files.now.grammar.now disk.old disk.new }
+    ensures spares { Spares D.Disk (record { told = I.told inputs.old; tells = D.tells; before = D.seen disk.old })
+        files.now.edges.now files.now.grammar.now (status_of result) disk.old disk.new }
     ensures keeps { KeepsInputs I.Inputs inputs.old inputs.new }
     ensures later { D.faults disk.old ≤ D.faults disk.new }
     ensures writes { O.faults out.old ≤ O.faults out.new }
