@@ -17,3 +17,4 @@ pub mod SameTexts
 pub mod Blameless
 pub mod Keeping
 pub mod Passes
+pub mod Blaming

@@ -15,7 +15,7 @@ use Rattle.open_store.specs.Store.{IsHeldAlone, OpenStore}
 use Rattle.open_store.specs.PartRead.{IsRefused}
 use Rattle.closer.specs.declared.one_step.Stepped.{Stepped}
 use Rattle.closer.specs.declared.one_step.Stepped.TheVariants.{Again, Finished}
-use Rattle.closer.specs.Continuation.{Continues, ImageGoesOn, HasWork, Retains, work_of}
+use Rattle.closer.specs.Continuation.{Continues, ImageGoesOn, HasWork, IsUntouched, Retains, work_of}
 
 abbrev pub IfFinished : Stepped → (OpenStore → Type 0) → Type 0
 IfFinished (Finished s) P = P s
@@ -60,10 +60,12 @@ pub record BlamesPicked (s : OpenStore) (tells : Bool) (seen : Contents) (file p
   pub file_is : file ≡ part_file s.manifest partition
   pub refused : IsTrue tells → IsRefused s partition (seen file) place kind
 
--- the same of a store on the way, in the contents of that moment
+-- The same of a store on the way, in the contents of that moment. The file is the one that the store from before has
+-- for this partition, with its bytes from before.
 pub record BlamesOnTheWay (before : OpenStore) (tells : Bool) (seen_before : Contents) (file place : ℕ) (kind : FormKind) : Type 0 where
   pub store : OpenStore
   pub seen : Contents
   pub rules_are : store.rules ≡ before.rules
   pub reached : IsTrue tells → (k : ℕ) × Continues (normal_form before.rules) k seen_before before.manifest seen store.manifest
   pub blames : BlamesPicked store tells seen file place kind
+  pub untouched : IsTrue tells → IsUntouched before.manifest seen_before store.manifest seen blames.partition

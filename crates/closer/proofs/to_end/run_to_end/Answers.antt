@@ -5,6 +5,7 @@ use Rattle.store_law.specs.Left.{HasNoWork}
 use Rattle.open_store.proofs.Causes.{handed}
 use Rattle.closer.specs.declared.one_step.Stepped.{Stepped}
 use Rattle.closer.specs.Answers.{IfAgain, IfFinished, IsStepped}
+use Rattle.closer.proofs.Blaming.{on_the_way}
 use Rattle.closer.proofs.Closings.{closed_here, no_step_there, one_more}
 use Rattle.closer.proofs.Images.{next_behind, nothing, step_before, steps_then}
 use Rattle.closer.proofs.Keeping.{ends_exact, keeps_moving}
@@ -70,7 +71,7 @@ returns-in_err-next-clause-cause g c =
     let D = g.D.Disk in
     let inv = c.loop-next.invariant in
     handed (D.faults c.args.disk.now) (D.faults c.loop-next.disk) (D.faults c.step.new.disk) _ _ c.step.result c.from_residual.result c.in_err-next.field-0.0 c.in_err-next.was c.from_residual.ensures.1 inv.later
-    (λ f p k b. record { store = c.loop-next.current; seen = D.seen c.loop-next.disk; rules_are = inv.rules; reached = inv.on; blames = b }) c.step.ensures.cause
+    (λ f p k b. on_the_way c.args.store c.loop-next.current D.tells (D.seen c.args.disk.now) (D.seen c.loop-next.disk) f p k inv.rules inv.on b) c.step.ensures.cause
 
 pub returns-in-Finished-clause-closed : goal.returns-in-Finished-clause-closed
 returns-in-Finished-clause-closed g c =
