@@ -8,8 +8,17 @@ use Rattle.closing_machine.specs.State.{State, edges_of, part, IsFinished}
 use Rattle.closing_machine.specs.Machine.{is_among, loaded, unloaded}
 use Rattle.closing_machine.specs.Chain.{After, EndsChain, IsLarge, IsPass, IsStep, pass}
 use Rattle.closing_machine.proofs.Going.{rounds_longer}
+use Rattle.closing_machine.proofs.Telling.{finished_told}
+use Rattle.disk_model.specs.Disk.{Contents}
+use Rattle.dest_map.specs.Table.{counts_of}
+use Rattle.pair_sched.specs.Marks.{joined_of, newest_of}
+use Rattle.manifest_codec.specs.declared.types.Manifest.{Manifest}
+use Rattle.store_law.specs.Left.{HasNoWork}
+use Rattle.store_law.specs.Listed.{state_in}
+use Rattle.open_store.proofs.Tallies.{ends_count}
+use Rattle.closer.specs.Answers.{EndsAsMachine}
 use Rattle.superstep.proofs.LoopLemmas.{rounds_shorter}
-use Rattle.closer.specs.Continuation.{AfterSteps, IsWholePass}
+use Rattle.closer.specs.Continuation.{AfterSteps, Continues, IsWholePass}
 
 both_lengths : (ends : List ℕ) (i j : ℕ) (edges : List Born) → length (filter (λ b. is_among i j (part ends b)) edges) + length (filter (λ b. not (is_among i j (part ends b))) edges) ≡ length edges
 both_lengths ends i j edges = length-filter_both (λ b. is_among i j (part ends b)) (λ b. not (is_among i j (part ends b))) (λ b. refl) edges
@@ -68,3 +77,12 @@ passes_end n limit k s after steps few finished =
         let split : length (edges_of after a) + length (filter (λ b. not (part after.ends b == a)) after.edges) ≡ length after.edges = length-filter_both (λ b. part after.ends b == a) (λ b. not (part after.ends b == a)) (λ b. refl) after.edges in
         let over : limit < length (edges_of after a) = large.over in
         omega (arith, split, few, over)
+
+-- steps after which no work is left end the machine's chain
+pub ends_as_machine : (n : Normal) (k : ℕ) (c d : Contents) (m last : Manifest) → Continues n k c m d last → HasNoWork last → EndsAsMachine n c m d last
+ends_as_machine n k c d m last on done parts listed tells =
+    let f = on.steps parts listed tells in
+    let finished : IsFinished (state_in last f.0) =
+    finished_told (counts_of last.map) (joined_of last.marks) (newest_of last.marks) (state_in last f.0) f.2
+    (λ i j li lj. done i j (omega (arith, li, ends_count last)) (omega (arith, lj, ends_count last))) in
+    (f.0, f.1, λ limit few. passes_end n limit k (state_in m parts) (state_in last f.0) f.3 few finished)

@@ -1,5 +1,6 @@
 pub mod GrammarLemmas
 pub mod StageLemmas
+pub mod MadeLemmas
 pub mod ExplainLemmas
 pub mod ReadyLemmas
 pub mod StopLemmas

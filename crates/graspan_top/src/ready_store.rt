@@ -68,9 +68,9 @@ fn found_or_made<I: Inputs, D: Disk>(
     ensures ready { IfOk result (IsReady (record
         { told = I.told inputs.old; tells = D.tells; before = D.seen disk.old }) files.now.edges.now
         files.now.grammar.now (D.seen disk.new) (D.may_leave disk.new)) }
-    ensures begins { IfOk result (λ _. IsTrue D.tells
+    ensures begins { IfOk result (λ s. IsTrue D.tells
         → BeginsWith (record { told = I.told inputs.old; tells = D.tells; before = D.seen disk.old })
-        (D.seen disk.new)) }
+        (D.seen disk.new) s) }
     ensures refused { IfErr result (λ fault. FirstRefusal (ready_stages
         (record { told = I.told inputs.old; tells = D.tells; before = D.seen disk.old }) files.now.edges.now
         files.now.grammar.now (rises_in I.Inputs D.Disk inputs.old inputs.new disk.old disk.new)) (why_of fault)) }
@@ -99,9 +99,9 @@ pub(crate) fn ready_store<I: Inputs, D: Disk>(
     ensures ready { IfOk result (IsReady (record
         { told = I.told inputs.old; tells = D.tells; before = D.seen disk.old }) files.now.edges.now
         files.now.grammar.now (D.seen disk.new) (D.may_leave disk.new)) }
-    ensures begins { IfOk result (λ _. IsTrue D.tells
+    ensures begins { IfOk result (λ s. IsTrue D.tells
         → BeginsWith (record { told = I.told inputs.old; tells = D.tells; before = D.seen disk.old })
-        (D.seen disk.new)) }
+        (D.seen disk.new) s) }
     ensures refused { IfErr result (Refuses (ready_stages
         (record { told = I.told inputs.old; tells = D.tells; before = D.seen disk.old }) files.now.edges.now
         files.now.grammar.now (rises_in I.Inputs D.Disk inputs.old inputs.new disk.old disk.new))) }

@@ -17,7 +17,7 @@ ghost use Rattle.graspan_top.specs.declared.status.Status.TheVariants.{Done};
 ghost use Rattle.graspan_top.specs.Given.{Given as AGiven};
 ghost use Rattle.graspan_top.specs.Printed.{Begins, IsNothingOr, PrintsFirst, status_of};
 ghost use Rattle.graspan_top.specs.Refusals.{Explained, Refuses, rises_in, rises_of};
-ghost use Rattle.graspan_top.specs.Run.{IsRunBegun, IsRunText, closed_stages, done_line, run_stages};
+ghost use Rattle.graspan_top.specs.Run.{AreTold, IsRunBegun, IsRunText, closed_stages, done_line, run_stages};
 ghost use Rattle.graspan_top.specs.Stages.{IsReady, IsShowBegun, show_stages, shown_text};
 ghost use Rattle.graspan_top.specs.Stops.{KeepsWork, Spares};
 
@@ -70,9 +70,10 @@ fn print_run<D: Disk, O: Sink>(
         (head_text store.now.manifest ++ (tally_text store.now.manifest.labels (all_edges parts)
         ++ (shown_text shown (all_edges parts) ++ done_line))) }
     ensures begun { IsTrue D.tells → OnErr result
-        ((text : List ℕ) × IsShowBegun store.now D.tells (D.seen disk.old) shown text
+        ((text : List ℕ) × IsShowBegun store.now (D.seen disk.old) shown text
         × AppendsPrefix (O.told out.old) (O.told out.new) text) }
-    ensures listed { IsTrue D.tells → OnOk result ((parts : List (List ABorn)) × AreListedIn store.now (D.seen disk.old) parts) }
+    ensures listed { IsTrue D.tells → OnOk result ((parts : List (List ABorn))
+        × AreListedIn store.now (D.seen disk.old) parts × AreTold store.now.manifest parts) }
     ensures looks { OnlyLooks D.Disk disk.old disk.new }
     ensures writes { O.faults out.old ≤ O.faults out.new }
     ensures cause { HasReason why_not_printed (print_causes (WriteRose O.Sink out.old out.new) (DiskRose D.Disk disk.old disk.new)

@@ -1,4 +1,4 @@
-use Rattle.std.proofs.Common.{◌≡◌, ℕ, ◌≤◌, List, refl, sym, ap, subst, ◌∙◌, arith}
+use Rattle.std.proofs.Common.{◌≡◌, ℕ, ◌≤◌, List, refl, sym, ap, subst, ◌∙◌, arith, inl}
 use Rattle.std.specs.Prelude.{IsTrue, IfErr}
 use Rattle.faults.specs.Counts.{Rose}
 use Rattle.disk_model.specs.Disk.{Contents}
@@ -10,6 +10,8 @@ use Rattle.graspan_top.specs.Given.{Given}
 use Rattle.open_store.specs.declared.opened.Opened.{Opened as OpenedT}
 use Rattle.graspan_top.specs.Refusals.{rises_in}
 use Rattle.graspan_top.proofs.ExplainLemmas.{by_reason, compare_refused, if_err, import_refused, open_refused, rose_later}
+use Rattle.manifest_switch.specs.Steps.{Stays}
+use Rattle.graspan_top.proofs.MadeLemmas.{begun_new}
 use Rattle.graspan_top.proofs.ReadyLemmas.{found_ready, import_ready_ok}
 use Rattle.graspan_top.proofs.StopLemmas.{spared_importing, spared_looking, work_importing, work_looking, work_with}
 use Rattle.graspan_top.proofs.ready_store.found_or_made.Goals as goal
@@ -127,3 +129,14 @@ returns-in-Blank-clause-spares g c = λ some.
     c.open.ensures.any_moment c.in_ok-open.ensures.stays
     (λ tells. subst (IsOpened (D.seen c.open.new.disk)) c.in-Blank.is (c.in_ok-open.ensures.opened tells))
     c.import.ensures.any_moment some
+
+pub returns-in_ok-compare-in-Found-clause-begins : goal.returns-in_ok-compare-in-Found-clause-begins
+returns-in_ok-compare-in-Found-clause-begins g c = λ tells.
+    let D = g.D.Disk in
+    inl (subst (λ (k : Contents). Stays (D.seen c.args.disk.now) k) (sym c.compare.ensures.looks.same_seen) (c.in_ok-open.ensures.stays tells))
+
+pub returns-in-Blank-clause-begins : goal.returns-in-Blank-clause-begins
+returns-in-Blank-clause-begins g c =
+    let D = g.D.Disk in
+    let x : Given = record { told = g.I.Inputs.told c.args.inputs.now; tells = D.tells; before = D.seen c.args.disk.now } in
+    begun_new x c.args.grammar.now (g.I.Inputs.told c.args.inputs.now c.args.files.now.edges.now) c.args.limit (D.seen c.import.new.disk) c.import.result c.import.ensures.imported
