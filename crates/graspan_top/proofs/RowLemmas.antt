@@ -11,7 +11,7 @@ use Rattle.graspan_top.specs.Runs.{IsInARow, IsRun, Ran}
 use Rattle.graspan_top.specs.declared.status.Status.TheVariants.{Done}
 
 module _ {D : Type 0} (d : disk.Ghosts D) (honest : (x : D) → IsTrue d.tells → d.may_leave x (d.seen x)) (told : List ℕ → Option (List ℕ)) (edges grammar g e : List ℕ) (tg : told grammar ≡ Some g) (te : told edges ≡ Some e) where
-  t : Texts
+  abbrev pub t : Texts
   t = texts_of g e
 
   same : (c : Contents) → IsLeft t c ⊎ IsLeft t c → IsLeft t c

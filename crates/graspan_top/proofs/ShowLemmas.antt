@@ -6,7 +6,8 @@ use Rattle.graph_words.specs.declared.types.Born.{Born}
 use Rattle.graph_words.specs.declared.types.LabelId.{LabelId}
 use Rattle.graph_words.specs.declared.types.Rule.{Rule}
 use Rattle.std.proofs.lemmas.List.{take_all}
-use Rattle.io_edge.specs.Devices.{Appends, AppendsPrefix, Takes}
+use Rattle.std.specs.Io.KnownBytes.{Appends}
+use Rattle.io_edge.specs.Devices.{AppendsPrefix, Takes}
 use Rattle.normal_law.specs.NormalForm.{normal_form}
 use Rattle.closing_machine.specs.Parts.{all_edges}
 use Rattle.disk_model.specs.Disk.{Contents}

@@ -62,7 +62,7 @@ module _ {D : Type 0} (d : disk.Ghosts D) (counts_now : (x : D) (t : ℕ) (c : C
   work_with old new keeps =
       work_kept old new
       (λ t g e tg te. leads_then d counts_now only_now honest old old new (IsLeft t) (IsLeft t) (λ c. IsLeft t c ⊎ IsLeft (texts_of g e) c) (preserved_looking d counts_now only_now honest old old (IsLeft t) looks_same)
-      (λ here. let run = (keeps t).left here in (weaker old new t g e run.0, λ tell. inl (run.1 tell))) (λ c q. q))
+      (λ here. let run = (keeps t).left here in (weaker old new t g e run.0, λ tell. inl (run.1 tell))) (λ c q. inl q))
       (λ some. keeps)
     where
       weaker : (old new : D) (t : Texts) (g e : List ℕ) → LeavesOnly d.moment d.left_since old new (IsLeft t) → LeavesOnly d.moment d.left_since old new (λ c. IsLeft t c ⊎ IsLeft (texts_of g e) c)
@@ -101,7 +101,7 @@ module _ {D : Type 0} (d : disk.Ghosts D) (counts_now : (x : D) (t : ℕ) (c : C
       (λ t g e tg te.
       leads_then d counts_now only_now honest old mid new (IsLeft t) (IsLeft t) (λ c. IsLeft t c ⊎ IsLeft (texts_of g e) c) (first t).left
       (leads_by d counts_now only_now honest mid new (IsLeft t) (λ c. IsLeft t c ⊎ IsLeft (texts_of g e) c) (Imports text (told edges) limit) run
-      (λ here x c image by. inr (import_left text g e (told edges) limit x c (file.is_file g tg) te (blank x image) by))) (λ c q. q))
+      (λ here x c image by. inr (import_left text g e (told edges) limit x c (file.is_file g tg) te (blank x image) by))) (λ c q. inl q))
       (λ some. keeps_then d counts_now only_now honest old mid new first (none_there (none_blank old mid stays seen_blank some)))
     where
       none_there : ((c : Contents) → d.may_leave mid c → ⊥) → KeepsStores d mid new
