@@ -29,6 +29,7 @@ use Rattle.closer.specs.NextManifest.{BlamesPair, IsNextManifest, IsOrderedPair}
 use Rattle.closer.proofs.Ending.{outcome}
 use Rattle.closer.proofs.Images.{continues_beside}
 use Rattle.closer.proofs.LawLemmas.{continues_further}
+use Rattle.closer.proofs.Passes.{ends_as_machine}
 use Rattle.closer.proofs.StepLemmas.{among_turned}
 
 -- the cause of a later part is one of the whole
@@ -88,7 +89,14 @@ pub closed_here : {D : Type 0} (seen : D → Contents) (images : D → Contents 
     → ((c : Contents) → images now c → IsHeldAlone current c) → (LeavesJust (seen old) (images old) → LeavesJust (seen now) (images now)) → IsClosedStore tells (seen old) (images old) s (seen new) (images new) last
 closed_here {D} seen images tells s current last old now new same done still rules on held synced =
     subst (λ (x : D). IsClosedStore tells (seen old) (images old) s (seen x) (images x) last) (sym still)
-    (subst (λ (o : OpenStore). IsClosedStore tells (seen old) (images old) s (seen now) (images now) o) (sym same) (record { done = done; continues = on; rules_are = rules; held = held; synced = synced }))
+    (subst (λ (o : OpenStore). IsClosedStore tells (seen old) (images old) s (seen now) (images now) o) (sym same) (record {
+      done = done;
+      continues = on;
+      ends = λ tell. let o = on tell in ends_as_machine (normal_form s.rules) o.0 (seen old) (seen now) s.manifest current.manifest o.1 done;
+      rules_are = rules;
+      held = held;
+      synced = synced;
+    }))
 
 -- steps behind others, with one more
 pub one_more : (s t u : OpenStore) (tells : Bool) (c d e : Contents) (images : Contents → Type 0) → t.rules ≡ s.rules → (IsTrue tells → (k : ℕ) × Continues (normal_form s.rules) k c s.manifest d t.manifest) → IsStepped tells d t e images u → IsTrue tells → (k : ℕ) × Continues (normal_form s.rules) k c s.manifest e u.manifest

@@ -15,3 +15,6 @@ pub mod Rooming
 pub mod Closings
 pub mod SameTexts
 pub mod Blameless
+pub mod Keeping
+pub mod Passes
+pub mod Blaming

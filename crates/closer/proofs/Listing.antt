@@ -23,6 +23,7 @@ use Rattle.store_law.specs.Listed.{AreListed, ends_of, expect_of, part_file, par
 use Rattle.store_law.proofs.Intervals.{listed_partitions}
 use Rattle.open_store.specs.PartRead.{count_into}
 use Rattle.open_store.proofs.Tallies.{ends_count}
+use Rattle.closer.specs.Continuation.{CanBeRead}
 use Rattle.closer.proofs.Bounds.{cut}
 use Rattle.closer.proofs.Running.{IsKnown}
 use Rattle.closer.proofs.Turning.{KeptIn, NewIn, Turns, parts_same}
@@ -89,7 +90,7 @@ pub record ComesIn (n : Normal) (m next : Manifest) (new : Contents) (after : Li
   pub spelled : SpellsPart (new (part_file next a)) (part_of m a edges)
   pub known : (b : Born) → Contains edges b → IsKnown n (length m.labels) b.edge.label
 
-module _ (n : Normal) (m next : Manifest) (fits : FitsManifest m) (i j k : ℕ) (t : Turns m next i j k) (room : m.round + k < 2 ^ 64) (fits_next : FitsManifest next) (old new : Contents) (parts after : List (List Born)) (listed : AreListed old m n.fresh parts) (size : length after ≡ length parts) (each : (a : ℕ) → a < length m.parts → StaysIn m next old new parts after a ⊎ ComesIn n m next new after a) where
+module _ (n : Normal) (m next : Manifest) (fits : FitsManifest m) (i j k : ℕ) (t : Turns m next i j k) (room : m.round + k < 2 ^ 64) (fits_next : FitsManifest next) where
   same_part : (a : ℕ) (edges : List Born) → part_of m a edges ≡ part_of next a edges
   same_part a edges = ap (λ (l : List ℕ). record { lo = low l a; hi = high l a; edges = edges }) (sym t.ends)
 
@@ -135,63 +136,77 @@ module _ (n : Normal) (m next : Manifest) (fits : FitsManifest m) (i j k : ℕ) 
         few = few;
       }
 
-  fits_after : (a : ℕ) → a < length m.parts → FitsPart (expect_of next n.fresh a) (part_of next a (get_or after a []))
-  fits_after a la =
-      either
-      (λ s.
-      let f = listed.fits a la in
-      subst (λ (l : List Born). FitsPart (expect_of next n.fresh a) (part_of next a l)) (sym s.same)
-      (part_fits a (get_or parts a []) f.part (λ b has. old_edge a b (All-contains (FitsEdge (expect_of m n.fresh a)) (get_or parts a []) b f.each has)) f.few))
-      (λ c. subst (λ (l : List Born). FitsPart (expect_of next n.fresh a) (part_of next a l)) (sym c.is) (part_fits a c.edges c.is_new.part (λ b has. new_edge a c.edges c.is_new b has (c.known b has)) (few_edges a c.edges c.is_new)))
-      (each a la)
-
-  spells_after : (a : ℕ) → a < length m.parts → SpellsPart (new (part_file next a)) (part_of next a (get_or after a []))
-  spells_after a la =
-      either
-      (λ s.
-      subst (λ (x : Part). SpellsPart (new (part_file next a)) x) (same_part a (get_or parts a []) ∙ ap (λ (l : List Born). part_of next a l) (sym s.same))
-      (subst (λ (f : List ℕ). SpellsPart f (part_of m a (get_or parts a []))) (sym s.file) (listed.spells a la)))
-      (λ c. subst (λ (x : Part). SpellsPart (new (part_file next a)) x) (same_part a c.edges ∙ ap (λ (l : List Born). part_of next a l) (sym c.is)) c.spelled)
-      (each a la)
-
   same_size : length next.parts ≡ length m.parts
   same_size = parts_same m next fits i j k t room
 
-  pub listed_after : AreListed new next n.fresh after
-  listed_after =
+  -- a partition with new edges can be read
+  pub comes_read : (new : Contents) (a : ℕ) (edges : List Born) → NewIn m next a edges → SpellsPart (new (part_file next a)) (part_of m a edges) → ((b : Born) → Contains edges b → IsKnown n (length m.labels) b.edge.label) → CanBeRead n next new a
+  comes_read new a edges x spelled known =
       record {
-        size = size ∙ listed.size ∙ sym same_size;
-        spells = λ a la. spells_after a (omega (arith, la, same_size));
-        fits = λ a la. fits_after a (omega (arith, la, same_size));
+        edges = edges;
+        fits = part_fits a edges x.part (λ b has. new_edge a edges x b has (known b has)) (few_edges a edges x);
+        spells = subst (λ (p : Part). SpellsPart (new (part_file next a)) p) (same_part a edges) spelled;
+        told = record {
+          counts = λ b lb. x.counts b (omega (arith, lb, same_size)) ∙ ap (λ (l : List ℕ). count_into l edges b) (sym t.ends);
+          newest = x.newest;
+        };
       }
 
-  module _ (tells : Tells (counts_of m.map) (joined_of m.marks) (newest_of m.marks) (state_in m parts)) where
-    before_parts : ArePartitions 0 (ends_of m) parts
-    before_parts = listed_partitions old m n.fresh parts listed
-
-    after_parts : ArePartitions 0 (ends_of next) after
-    after_parts = listed_partitions new next n.fresh after listed_after
-
-    counts_after : (a b : ℕ) → a < length m.parts → b < length m.parts → counts_of next.map a b ≡ count (state_in next after) a b
-    counts_after a b la lb =
+  module _ (old new : Contents) (parts after : List (List Born)) (listed : AreListed old m n.fresh parts) (size : length after ≡ length parts) (each : (a : ℕ) → a < length m.parts → StaysIn m next old new parts after a ⊎ ComesIn n m next new after a) where
+    fits_after : (a : ℕ) → a < length m.parts → FitsPart (expect_of next n.fresh a) (part_of next a (get_or after a []))
+    fits_after a la =
         either
-        (λ s. s.kept.counts b ∙ tells.count_is a b (omega (arith, la, ends_count m)) (omega (arith, lb, ends_count m)) ∙ count_here (ends_of m) parts m.vertices m.round (joined_of m.marks) (cut m fits) before_parts a b ∙ ap (λ (l : List Born). count_into (ends_of m) l b) (sym s.same))
-        (λ c. c.is_new.counts b lb ∙ ap (λ (l : List Born). count_into (ends_of m) l b) (sym c.is)) (each a la)
-        ∙ ap (λ (l : List ℕ). count_into l (get_or after a []) b) (sym t.ends)
-        ∙ sym (count_here (ends_of next) after next.vertices next.round (joined_of next.marks) (cut next fits_next) after_parts a b)
+        (λ s.
+        let f = listed.fits a la in
+        subst (λ (l : List Born). FitsPart (expect_of next n.fresh a) (part_of next a l)) (sym s.same)
+        (part_fits a (get_or parts a []) f.part (λ b has. old_edge a b (All-contains (FitsEdge (expect_of m n.fresh a)) (get_or parts a []) b f.each has)) f.few))
+        (λ c. subst (λ (l : List Born). FitsPart (expect_of next n.fresh a) (part_of next a l)) (sym c.is) (part_fits a c.edges c.is_new.part (λ b has. new_edge a c.edges c.is_new b has (c.known b has)) (few_edges a c.edges c.is_new)))
+        (each a la)
 
-    newest_after : (a : ℕ) → a < length m.parts → newest_of next.marks a ≡ newest (state_in next after) a
-    newest_after a la =
+    spells_after : (a : ℕ) → a < length m.parts → SpellsPart (new (part_file next a)) (part_of next a (get_or after a []))
+    spells_after a la =
         either
-        (λ s. s.kept.newest ∙ tells.newest_is a (omega (arith, la, ends_count m)) ∙ newest_here (ends_of m) parts m.vertices m.round (joined_of m.marks) (cut m fits) before_parts a ∙ ap greatest_birth (sym s.same))
-        (λ c. c.is_new.newest ∙ ap greatest_birth (sym c.is)) (each a la)
-        ∙ sym (newest_here (ends_of next) after next.vertices next.round (joined_of next.marks) (cut next fits_next) after_parts a)
+        (λ s.
+        subst (λ (x : Part). SpellsPart (new (part_file next a)) x) (same_part a (get_or parts a []) ∙ ap (λ (l : List Born). part_of next a l) (sym s.same))
+        (subst (λ (f : List ℕ). SpellsPart f (part_of m a (get_or parts a []))) (sym s.file) (listed.spells a la)))
+        (λ c. subst (λ (x : Part). SpellsPart (new (part_file next a)) x) (same_part a c.edges ∙ ap (λ (l : List Born). part_of next a l) (sym c.is)) c.spelled)
+        (each a la)
 
-    pub tells_after : Tells (counts_of next.map) (joined_of next.marks) (newest_of next.marks) (state_in next after)
-    tells_after =
-        let e = ends_count next in
+    pub listed_after : AreListed new next n.fresh after
+    listed_after =
         record {
-          count_is = λ a b la lb. counts_after a b (omega (arith, la, e, same_size)) (omega (arith, lb, e, same_size));
-          mark_is = λ a b la lb. refl;
-          newest_is = λ a la. newest_after a (omega (arith, la, e, same_size));
+          size = size ∙ listed.size ∙ sym same_size;
+          spells = λ a la. spells_after a (omega (arith, la, same_size));
+          fits = λ a la. fits_after a (omega (arith, la, same_size));
         }
+
+    module _ (tells : Tells (counts_of m.map) (joined_of m.marks) (newest_of m.marks) (state_in m parts)) where
+      before_parts : ArePartitions 0 (ends_of m) parts
+      before_parts = listed_partitions old m n.fresh parts listed
+
+      after_parts : ArePartitions 0 (ends_of next) after
+      after_parts = listed_partitions new next n.fresh after listed_after
+
+      counts_after : (a b : ℕ) → a < length m.parts → b < length m.parts → counts_of next.map a b ≡ count (state_in next after) a b
+      counts_after a b la lb =
+          either
+          (λ s. s.kept.counts b ∙ tells.count_is a b (omega (arith, la, ends_count m)) (omega (arith, lb, ends_count m)) ∙ count_here (ends_of m) parts m.vertices m.round (joined_of m.marks) (cut m fits) before_parts a b ∙ ap (λ (l : List Born). count_into (ends_of m) l b) (sym s.same))
+          (λ c. c.is_new.counts b lb ∙ ap (λ (l : List Born). count_into (ends_of m) l b) (sym c.is)) (each a la)
+          ∙ ap (λ (l : List ℕ). count_into l (get_or after a []) b) (sym t.ends)
+          ∙ sym (count_here (ends_of next) after next.vertices next.round (joined_of next.marks) (cut next fits_next) after_parts a b)
+
+      newest_after : (a : ℕ) → a < length m.parts → newest_of next.marks a ≡ newest (state_in next after) a
+      newest_after a la =
+          either
+          (λ s. s.kept.newest ∙ tells.newest_is a (omega (arith, la, ends_count m)) ∙ newest_here (ends_of m) parts m.vertices m.round (joined_of m.marks) (cut m fits) before_parts a ∙ ap greatest_birth (sym s.same))
+          (λ c. c.is_new.newest ∙ ap greatest_birth (sym c.is)) (each a la)
+          ∙ sym (newest_here (ends_of next) after next.vertices next.round (joined_of next.marks) (cut next fits_next) after_parts a)
+
+      pub tells_after : Tells (counts_of next.map) (joined_of next.marks) (newest_of next.marks) (state_in next after)
+      tells_after =
+          let e = ends_count next in
+          record {
+            count_is = λ a b la lb. counts_after a b (omega (arith, la, e, same_size)) (omega (arith, lb, e, same_size));
+            mark_is = λ a b la lb. refl;
+            newest_is = λ a la. newest_after a (omega (arith, la, e, same_size));
+          }

@@ -29,11 +29,11 @@ use Rattle.store_law.proofs.Intervals.{listed_partitions}
 use Rattle.superstep.specs.Room.{IsInFormat}
 use Rattle.open_store.specs.Store.{IsOpenStore, OpenStore}
 use Rattle.open_store.proofs.Tallies.{ends_count}
-use Rattle.closer.specs.Continuation.{AfterSteps, Continues}
+use Rattle.closer.specs.Continuation.{AfterSteps, CanBeRead, Continues, IsUntouched}
 use Rattle.closer.specs.NextManifest.{IsLeastMarkIn, IsMarked, IsOrderedPair, IsPartIn, Puts, TakesOn}
 use Rattle.closer.proofs.Bounds.{cut}
 use Rattle.closer.proofs.Flat.{edge_fits, is_it, kept_one, kept_two, new_high, new_low, new_one, turns_one, turns_two}
-use Rattle.closer.proofs.Listing.{ComesIn, StaysIn, listed_after, listed_here, tells_after}
+use Rattle.closer.proofs.Listing.{ComesIn, StaysIn, comes_read, listed_after, listed_here, tells_after}
 use Rattle.closer.proofs.Least.{least_told}
 use Rattle.closer.proofs.Nexting.{file_start, in_part}
 use Rattle.closer.proofs.Running.{IsKnown, joins_known, labels_stay}
@@ -145,11 +145,27 @@ module _ (s : OpenStore) (is : IsOpenStore s) (left : All (λ r. r.left.0 < leng
         (subst (λ (l : List Born). IsPairRun n l since m.round (length p'.edges) true k p'.edges) (sym here) r1) (in_partition m first p'.edges (in_part m first p' p'-is part)) (joined_of next.marks)
         (subst (λ (z : ℕ). (a b : ℕ) → joined_of next.marks a b ≡ cond (is_among first z a && is_among first z b) (mark_after true (joined_of m.marks a b) (m.round + k)) (joined_of m.marks a b)) (sym same) (marks_after next t1)) (λ a b ea eb some. marked_since parts tells first first alone a b ea eb some)))
 
+    part_one : (a : ℕ) → a < length m.parts → IsUntouched m old next new a ⊎ CanBeRead n next new a
+    part_one a la =
+        either
+        (λ e. inr
+        (subst (λ (z : ℕ). CanBeRead n next new z) (sym e)
+        (comes_read n m next is.fits i j k t1 room fits_next new first p'.edges (new_one s is.fits i j k start marked turned first p p' x since r1.last r1.rounds p'-is part format next t)
+        (subst (λ (z : Part). SpellsPart (new (part_file next first)) z) p'-is put.spelled) known_one)))
+        (λ ne.
+        let kept = kept_one s is.fits i j k start marked turned first p p' x since r1.last r1.rounds p'-is part format next t a ne in
+        let file = t.other_files a ne ∙ file_start m is.fits i j k start marked a in
+        inl (record { file = file; bytes = ap new file ∙ put.spares.parts a la; counts = kept.counts; newest = kept.newest }))
+        (is_it a first)
+
     pub goes_on_one : Continues n 1 old m new next
     goes_on_one =
         record {
           fits = fits_next;
           same = t1.same;
+          ends = t1.ends;
+          later = omega (arith, t1.round_is);
+          parts = part_one;
           copies = keeps_copies m old new (put.spares.below 2 (omega arith)) (put.spares.below 3 (omega arith));
           steps = λ parts listed tells.
               let after = slice_set parts first p'.edges in
@@ -222,11 +238,36 @@ module _ (s : OpenStore) (is : IsOpenStore s) (left : All (λ r. r.left.0 < leng
         (subst (λ (l : List Born). IsPairRun n l since m.round (length (p'.edges ++ q'.edges)) true k (p'.edges ++ q'.edges)) (λ z. sym one z ++ sym two z) r2) (in_partition m first p'.edges (in_part m first p' p'-is p'-part)) (in_partition m last q'.edges (in_part m last q' q'-is q'-part)) (joined_of next.marks) (marks_after next t2)
         (λ a b ea eb some. marked_since parts tells first last ordered a b ea eb some)))
 
+    part_two : (a : ℕ) → a < length m.parts → IsUntouched m old next new a ⊎ CanBeRead n next new a
+    part_two a la =
+        either
+        (λ e. inr
+        (subst (λ (z : ℕ). CanBeRead n next new z) (sym e)
+        (comes_read n m next is.fits i j k t2 room fits_next new first p'.edges (new_low s is.fits i j k start marked turned first last apart p q p' q' x y since r2.last r2.rounds p'-is q'-is p'-part q'-part format mid next t u)
+        (subst (λ (z : Part). SpellsPart (new (part_file next first)) z) p'-is (subst (λ (f : List ℕ). SpellsPart f p') (sym low_file) put.spelled))
+        (λ b has. known_two b (Contains-append_left p'.edges q'.edges b has)))))
+        (λ ne.
+        either
+        (λ e. inr
+        (subst (λ (z : ℕ). CanBeRead n next new z) (sym e)
+        (comes_read n m next is.fits i j k t2 room fits_next new last q'.edges (new_high s is.fits i j k start marked turned first last apart p q p' q' x y since r2.last r2.rounds p'-is q'-is p'-part q'-part format mid next t u)
+        (subst (λ (z : Part). SpellsPart (new (part_file next last)) z) q'-is put'.spelled)
+        (λ b has. known_two b (Contains-append_right p'.edges q'.edges b has)))))
+        (λ nz.
+        let kept = kept_two s is.fits i j k start marked turned first last apart p q p' q' x y since r2.last r2.rounds p'-is q'-is p'-part q'-part format mid next t u a ne nz in
+        let file = u.other_files a nz ∙ t.other_files a ne ∙ file_start m is.fits i j k start marked a in
+        inl (record { file = file; bytes = ap new file ∙ put'.spares.parts a la ∙ put.spares.parts a la; counts = kept.counts; newest = kept.newest }))
+        (is_it a last))
+        (is_it a first)
+
     pub goes_on_two : Continues n 1 old m new next
     goes_on_two =
         record {
           fits = fits_next;
           same = t2.same;
+          ends = t2.ends;
+          later = omega (arith, t2.round_is);
+          parts = part_two;
           copies = keeps_copies m old new (put'.spares.below 2 (omega arith) ∙ put.spares.below 2 (omega arith)) (put'.spares.below 3 (omega arith) ∙ put.spares.below 3 (omega arith));
           steps = λ parts listed tells.
               let after = after_two parts in

@@ -1,21 +1,27 @@
 -- What steps of closing answer, and why.
-use Rattle.std.specs.Prelude.{◌≡◌, ◌⊎◌, ℕ, ◌<◌, true, Bool, IsTrue, length}
+use Rattle.std.specs.Prelude.{◌≡◌, ◌⊎◌, ℕ, ◌<◌, ◌≤◌, true, Bool, IsTrue, List, length}
+use Rattle.graph_words.specs.declared.types.Born.{Born}
+use Rattle.normal_law.specs.Closure.{Normal}
 use Rattle.normal_law.specs.NormalForm.{normal_form}
 use Rattle.closing_machine.specs.State.{IsPick}
 use Rattle.closing_machine.specs.Machine.{is_among}
+use Rattle.closing_machine.specs.Chain.{EndsChain}
+use Rattle.closing_machine.specs.Parts.{all_edges}
+use Rattle.closing_machine.specs.Tells.{Tells}
 use Rattle.disk_model.specs.Disk.{Contents}
 use Rattle.disk_model.specs.Crash.{LeavesJust}
 use Rattle.faults.specs.declared.form_kind.FormKind.{FormKind}
 use Rattle.dest_map.specs.Table.{counts_of}
 use Rattle.pair_sched.specs.Marks.{joined_of, newest_of}
 use Rattle.manifest_switch.specs.Slots.{other}
-use Rattle.store_law.specs.Listed.{part_file}
+use Rattle.manifest_codec.specs.declared.types.Manifest.{Manifest}
+use Rattle.store_law.specs.Listed.{AreListed, part_file, state_in}
 use Rattle.store_law.specs.Left.{HasNoWork}
 use Rattle.open_store.specs.Store.{IsHeldAlone, OpenStore}
 use Rattle.open_store.specs.PartRead.{IsRefused}
 use Rattle.closer.specs.declared.one_step.Stepped.{Stepped}
 use Rattle.closer.specs.declared.one_step.Stepped.TheVariants.{Again, Finished}
-use Rattle.closer.specs.Continuation.{Continues, ImageGoesOn, HasWork, Retains, work_of}
+use Rattle.closer.specs.Continuation.{Continues, ImageGoesOn, HasWork, IsUntouched, Retains, work_of}
 
 abbrev pub IfFinished : Stepped → (OpenStore → Type 0) → Type 0
 IfFinished (Finished s) P = P s
@@ -37,11 +43,20 @@ pub record IsStepped (tells : Bool) (seen_before : Contents) (before : OpenStore
   pub held : (c : Contents) → images c → IsHeldAlone s c
   pub synced : LeavesJust seen images
 
--- The store has no work left, and came from the one before by some steps.
+-- Whatever partitions m lists and tells of, `last` lists the end of the closing machine's chain of steps from them,
+-- for each limit of a partition and budget that the edges at the end don't pass.
+abbrev pub EndsAsMachine : Normal → Contents → Manifest → Contents → Manifest → Type 0
+EndsAsMachine n c m d last = (parts : List (List Born)) → AreListed c m n.fresh parts
+    → Tells (counts_of m.map) (joined_of m.marks) (newest_of m.marks) (state_in m parts)
+    → (after : List (List Born)) × AreListed d last n.fresh after
+    × ((limit : ℕ) → length (all_edges after) ≤ limit → EndsChain n limit limit (state_in m parts) (state_in last after))
+
+-- The store has no work left, and came from the one before by some steps, which are those of the closing machine.
 pub record IsClosedStore (tells : Bool) (seen_before : Contents) (images_before : Contents → Type 0) (before : OpenStore)
     (seen : Contents) (images : Contents → Type 0) (s : OpenStore) : Type 0 where
   pub done : HasNoWork s.manifest
   pub continues : IsTrue tells → (k : ℕ) × Continues (normal_form before.rules) k seen_before before.manifest seen s.manifest
+  pub ends : IsTrue tells → EndsAsMachine (normal_form before.rules) seen_before before.manifest seen s.manifest
   pub rules_are : s.rules ≡ before.rules
   pub held : (c : Contents) → images c → IsHeldAlone s c
   pub synced : LeavesJust seen_before images_before → LeavesJust seen images
@@ -60,10 +75,12 @@ pub record BlamesPicked (s : OpenStore) (tells : Bool) (seen : Contents) (file p
   pub file_is : file ≡ part_file s.manifest partition
   pub refused : IsTrue tells → IsRefused s partition (seen file) place kind
 
--- the same of a store on the way, in the contents of that moment
+-- The same of a store on the way, in the contents of that moment. The file is the one that the store from before has
+-- for this partition, with its bytes from before.
 pub record BlamesOnTheWay (before : OpenStore) (tells : Bool) (seen_before : Contents) (file place : ℕ) (kind : FormKind) : Type 0 where
   pub store : OpenStore
   pub seen : Contents
   pub rules_are : store.rules ≡ before.rules
   pub reached : IsTrue tells → (k : ℕ) × Continues (normal_form before.rules) k seen_before before.manifest seen store.manifest
   pub blames : BlamesPicked store tells seen file place kind
+  pub untouched : IsTrue tells → IsUntouched before.manifest seen_before store.manifest seen blames.partition

@@ -41,3 +41,17 @@ pub fn stores_are_not_refused()
         → IsStoreOf t c s.manifest parts → s.rules ≡ rules t → (i place : ℕ) (kind : AKind)
         → i < length s.manifest.parts → IsRefused s i (c (part_file s.manifest i)) place kind → ⊥ }
 {}
+
+ghost use Rattle.std.specs.Prelude.{◌≤◌};
+ghost use Rattle.normal_law.specs.Closure.{Normal};
+ghost use Rattle.closing_machine.specs.State.{State, IsFinished};
+ghost use Rattle.closing_machine.specs.Chain.{After, EndsChain};
+
+/// Steps of closing are those of the closing machine, which are determined, for each limit of a partition and budget
+/// that the edges at the end don't pass. Where no work is left they are its chain to the end.
+pub fn passes_are_steps_of_the_machine()
+    ensures steps { (n : Normal) (limit k : ℕ) (s after : State) → AfterSteps n k s after
+        → length after.edges ≤ limit → After n limit limit s k after }
+    ensures end { (n : Normal) (limit k : ℕ) (s after : State) → AfterSteps n k s after
+        → length after.edges ≤ limit → IsFinished after → EndsChain n limit limit s after }
+{}

@@ -9,7 +9,7 @@ mod pair;
 mod to_end;
 
 pub use laws::{
-    held_stores_have_the_rules_of_their_texts, steps_keep_a_store, stops_leave_a_store,
+    held_stores_have_the_rules_of_their_texts, passes_are_steps_of_the_machine, steps_keep_a_store, stops_leave_a_store,
     stores_are_not_refused,
 };
 pub use one_step::{Stepped, step};

@@ -6,6 +6,7 @@ ghost use Rattle.disk_model.specs.Disk.{Contents};
 ghost use Rattle.disk_model.specs.View.{LeavesBy, on_disk};
 ghost use Rattle.dest_map.specs.Table.{counts_of};
 ghost use Rattle.open_store.specs.Store.{IsHeldAlone};
+ghost use Rattle.store_law.specs.Kept.{KeepsStores};
 ghost use Rattle.store_law.specs.Left.{HasNoWork};
 ghost use Rattle.closer.specs.Answers.{BlamesPicked, IfAgain, IfFinished, IsStepped, Moves};
 ghost use Rattle.closer.specs.NextManifest.{BlamesPair, IsNextManifest, IsOrderedPair, Spares};
@@ -73,7 +74,7 @@ fn close_pair<D: Disk>(
 /// `Finished` comes exactly where no pair has work left, and then nothing was written. After `Again`
 /// the store is one step further, by the closing machine's steps, and `work_of` its manifest is less
 /// on any disk. Whatever it answers, a crash at any moment leaves the store as it was, or one that
-/// goes on from it. `DiskFault` comes only where the disk's count rose, and `BadStore` blames a
+/// goes on from it; so stores are kept, whatever texts they are of, with each edge that they list. `DiskFault` comes only where the disk's count rose, and `BadStore` blames a
 /// partition of the pair as `load` does. `NoMemory` comes for want of memory.
 ///
 /// That of two partitions at a time edge pairs are joined on disk is Graspan's way (Wang et al.,
@@ -88,6 +89,7 @@ pub fn step<D: Disk>(
     ensures finished { IfOk result (λ r. IfFinished r (λ s. (s ≡ store) × HasNoWork store.manifest × (disk.new ≡ disk.old))) }
     ensures again { IfOk result (λ r. IfAgain r (IsStepped D.tells (D.seen disk.old) store (D.seen disk.new) (D.may_leave disk.new))) }
     ensures any_moment { LeavesBy D.Disk disk.old disk.new (Moves store (D.seen disk.old)) }
+    ensures stores { KeepsStores D.Disk disk.old disk.new }
     ensures later { D.faults disk.old ≤ D.faults disk.new }
     ensures cause { HasReason why_of (on_disk D.Disk disk.old disk.new
         (BlamesPicked store D.tells (D.seen disk.old))) result }

@@ -4,7 +4,10 @@ ghost use Rattle.faults.specs.Reasons.{HasReason};
 ghost use Rattle.store_fault.specs.Faults.{why_of};
 ghost use Rattle.disk_model.specs.Disk.{Contents};
 ghost use Rattle.disk_model.specs.View.{LeavesBy, on_disk};
-ghost use Rattle.store_law.specs.Left.{HasNoWork};
+ghost use Rattle.store_law.specs.Kept.{EndsIn, KeepsStores};
+ghost use Rattle.store_law.specs.Left.{HasNoWork, IsLeft};
+ghost use Rattle.store_law.specs.Listed.{AreExact};
+ghost use Rattle.store_law.specs.Texts.{Texts};
 ghost use Rattle.open_store.specs.Store.{IsHeldAlone};
 ghost use Rattle.closer.specs.Answers.{BlamesOnTheWay, IsClosedStore, Moves};
 
@@ -19,7 +22,8 @@ use std::alloc::Global;
 /// The store was opened for a change, or came from an import, a commit or a step. It ends on every
 /// disk, since `work_of` the manifest falls with each step. Where no pair has work left at first,
 /// nothing is written. Whatever it answers, a crash at any moment leaves the store as it was, or one
-/// that goes on from it by some steps. The faults are those of [`step`](crate::step), of the store
+/// that goes on from it by some steps; so stores are kept, whatever texts they are of, with each edge
+/// that they list. After Ok what stopped runs of any texts left is exactly their closure. The faults are those of [`step`](crate::step), of the store
 /// that it had come to.
 pub fn run_to_end<D: Disk>(
     alloc: Global,
@@ -31,6 +35,8 @@ pub fn run_to_end<D: Disk>(
     ensures closed { IfOk result (IsClosedStore D.tells (D.seen disk.old) (D.may_leave disk.old) store (D.seen disk.new) (D.may_leave disk.new)) }
     ensures rest { HasNoWork store.manifest → IfOk result (λ s. (s ≡ store) × (disk.new ≡ disk.old)) }
     ensures any_moment { LeavesBy D.Disk disk.old disk.new (Moves store (D.seen disk.old)) }
+    ensures stores { KeepsStores D.Disk disk.old disk.new }
+    ensures exact { IfOk result (λ _. (t : Texts) → EndsIn D.Disk disk.old disk.new (IsLeft t) (AreExact t)) }
     ensures later { D.faults disk.old ≤ D.faults disk.new }
     ensures cause { HasReason why_of (on_disk D.Disk disk.old disk.new
         (BlamesOnTheWay store D.tells (D.seen disk.old))) result }

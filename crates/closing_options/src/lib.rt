@@ -1,7 +1,8 @@
 //! What a run is asked for: its numbers.
 #![tactic(auto)]
 
-/// How a store is closed. One worker joins whole pairs for now, so none of it is used yet.
+/// How a store is made and closed. For now an import cuts its partitions by `part_edges`, and one worker joins whole
+/// pairs, so the other two numbers are not used yet.
 #[derive(Clone, Copy, Debug, PartialEq, Eq)]
 pub struct RunOptions {
     /// How many workers join at the same time.

@@ -32,6 +32,7 @@ use Rattle.graspan_top.specs.Run.{Accepts, BeginsWith, BlamesPrinting, DiffersFr
 use Rattle.graspan_top.specs.Run.{closed_stages, closing_stage, edges_stage, grammar_stage, label_stage, printing_stage, ready_stages, run_stages, same_grammar_stage, store_stage}
 use Rattle.graspan_top.specs.Stages.{DiffersFrom, IsCopied, IsGrammarFile, compare_stages, show_stages}
 use Rattle.graspan_top.specs.declared.status.Status.{Status}
+use Rattle.graspan_top.proofs.MadeLemmas.{made_not_blamed}
 use Rattle.graspan_top.proofs.StageLemmas.{Follow, Grow, behind, both_follow, both_passed, counts_more, explained_by, first_more, in_front, passed_more, refused_by, refuses_by}
 
 -- a count that rose in a part of a call rose in it
@@ -261,20 +262,18 @@ module _ (x : Given) (edges grammar : List ℕ) where
 
   module _ (accepts : Accepts x edges grammar) where
     -- the closing is refused
-    pub close_refused : (after seen : Contents) (s : OpenStore) → (IsTrue x.tells → BeginsWith x seen) → (IsTrue x.tells → IsOpenedAs x edges grammar seen s) → (rose : Rises) (dr : Type 0) → (dr → rose.disk) → (why : Why) → Holds (disk_causes dr (BlamesOnTheWay s x.tells seen)) why → FirstRefusal (closed_stages x edges grammar after rose) why
+    pub close_refused : (after seen : Contents) (s : OpenStore) → (IsTrue x.tells → BeginsWith x seen s) → (IsTrue x.tells → IsOpenedAs x edges grammar seen s) → (rose : Rises) (dr : Type 0) → (dr → rose.disk) → (why : Why) → Holds (disk_causes dr (BlamesOnTheWay s x.tells seen)) why → FirstRefusal (closed_stages x edges grammar after rose) why
     close_refused after seen s from opened rose dr more why h =
         behind (ready_stages x edges grammar rose) (closing_stage x edges grammar after rose.disk ∷ []) accepts why
         (inl
         (holds_more _ _
         (disk_more dr rose.disk (BlamesOnTheWay s x.tells seen) _ more
         (λ f place kind b tells.
-        record {
-          seen = seen;
-          store = s;
-          begins = from tells;
-          opened = opened tells;
-          blames = subst (λ (k : Bool). BlamesOnTheWay s k seen f place kind) tells b;
-        })) why h))
+        let here = subst (λ (k : Bool). BlamesOnTheWay s k seen f place kind) tells b in
+        elim (from tells) [
+          | inl stays ↦ record { seen = seen; store = s; stays = stays; opened = opened tells; blames = here }
+          | inr (t, parts, st) ↦ absurd (made_not_blamed t s seen parts st (opened tells).held f place kind here)
+        ])) why h))
 
     -- the store is closed
     module _ (after : Contents) (s : OpenStore) (opened : IsTrue x.tells → IsOpenedAs x edges grammar after s) (done : HasNoWork s.manifest) (rose : Rises) where

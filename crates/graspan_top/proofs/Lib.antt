@@ -1,5 +1,6 @@
 pub mod GrammarLemmas
 pub mod StageLemmas
+pub mod MadeLemmas
 pub mod ExplainLemmas
 pub mod ReadyLemmas
 pub mod StopLemmas
@@ -9,3 +10,4 @@ pub mod ShowLemmas
 pub mod TextLemmas
 pub mod CommandLemmas
 pub mod EmitLemmas
+pub mod RowLemmas

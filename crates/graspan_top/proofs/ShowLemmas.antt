@@ -5,6 +5,8 @@ use Rattle.faults.specs.Reasons.{Holds}
 use Rattle.graph_words.specs.declared.types.Born.{Born}
 use Rattle.graph_words.specs.declared.types.LabelId.{LabelId}
 use Rattle.graph_words.specs.declared.types.Rule.{Rule}
+use Rattle.std.proofs.lemmas.List.{take_all}
+use Rattle.std.specs.Io.KnownBytes.{Appends}
 use Rattle.io_edge.specs.Devices.{AppendsPrefix, Takes}
 use Rattle.normal_law.specs.NormalForm.{normal_form}
 use Rattle.closing_machine.specs.Parts.{all_edges}
@@ -25,7 +27,7 @@ use Rattle.graspan_top.specs.Faults.{of_answer}
 use Rattle.graspan_top.specs.Given.{WhereCurrent}
 use Rattle.graspan_top.specs.Printed.{IsNothingOr, PrintsFirst, TakesBegun, TakesPrefix}
 use Rattle.graspan_top.specs.Refusals.{ArePassed, Explained}
-use Rattle.graspan_top.specs.Run.{IsFinishedStore, IsRunBegun, IsRunText, IsShownText, done_line}
+use Rattle.graspan_top.specs.Run.{AreTold, IsFinishedStore, IsRunBegun, IsRunText, IsShownText, done_line}
 use Rattle.graspan_top.specs.Stages.{IsShowBegun, show_stages, shown_text}
 use Rattle.graspan_top.specs.declared.status.Status.{Status}
 use Rattle.graspan_top.specs.declared.status.Status.TheVariants.{NotKnown}
@@ -49,6 +51,11 @@ listed_of_read s tells c read t are all =
   where
     each : (i : ℕ) → i < length read → IsRead s i tells (c (part_file s.manifest i)) (slice_index_or read i [])
     each i lt = subst (λ (k : ℕ). IsRead s k tells (c (part_file s.manifest k)) (slice_index_or read i [])) (let e : 0 + i ≡ i = omega arith in e) (are.each i lt)
+
+-- and the manifest tells of them
+pub told_of_read : (s : OpenStore) (tells : Bool) (c : Contents) (read : List (List Born)) → AreRead s tells c 0 read → length read ≡ length s.manifest.parts → AreTold s.manifest read
+told_of_read s tells c read are all i lt =
+    (subst (λ (k : ℕ). IsRead s k tells (c (part_file s.manifest k)) (slice_index_or read i [])) (let e : 0 + i ≡ i = omega arith in e) (are.each i (omega (arith, all, lt)))).told
 
 -- a copy has one grammar
 rules_once : (m : Manifest) (file : List ℕ) (xs ys : List Rule) → IsCopyRead m file xs → IsCopyRead m file ys → xs ≡ ys
@@ -74,12 +81,12 @@ module _ (s : OpenStore) (c : Contents) (held : IsHeld s c) (show : Option (List
           (parts, subst (λ (r : List Rule). AreListed c s.manifest (normal_form r).fresh parts) rules listed, printed ∙ (rw (same, shown_is) refl))
 
   -- and the store that is held has such a text
-  pub some_text : HasNoWork s.manifest → (parts : List (List Born)) → AreListedIn s c parts → IsShownText s.manifest.labels (all_edges parts) show (shown_text shown (all_edges parts)) → IsRunText c show (text_of parts)
-  some_text done parts listed is =
+  pub some_text : HasNoWork s.manifest → (parts : List (List Born)) → AreListedIn s c parts → AreTold s.manifest parts → IsShownText s.manifest.labels (all_edges parts) show (shown_text shown (all_edges parts)) → IsRunText c show (text_of parts)
+  some_text done parts listed told is =
       record {
         manifest = s.manifest;
         parts = parts;
-        end = record { slot = s.slot; current = held.current; rules = s.rules; grammar = held.grammar; listed = listed; done = done };
+        end = record { slot = s.slot; current = held.current; rules = s.rules; grammar = held.grammar; listed = listed; told = told; done = done };
         shown = shown_text shown (all_edges parts);
         shown_is = is;
         printed = refl;
@@ -93,19 +100,19 @@ fault_prints known IsText old new answers.WriteFault p = p
 fault_prints known IsText old new answers.NoMemory p = p
 
 -- what was begun
-pub show_begun : (s : OpenStore) (tells : Bool) (c : Contents) (show : Option (List ℕ)) (shown : Option LabelId) (old new : Option (List ℕ)) → (IsTrue tells → IsHeld s c) → HasNoWork s.manifest → ((edges : List Born) → IsShownText s.manifest.labels edges show (shown_text shown edges)) → (IsTrue tells → (text : List ℕ) × IsShowBegun s tells c shown text × AppendsPrefix old new text) → TakesBegun tells (IsNothingOr (IsRunBegun c show)) old new
+pub show_begun : (s : OpenStore) (tells : Bool) (c : Contents) (show : Option (List ℕ)) (shown : Option LabelId) (old new : Option (List ℕ)) → (IsTrue tells → IsHeld s c) → HasNoWork s.manifest → ((edges : List Born) → IsShownText s.manifest.labels edges show (shown_text shown edges)) → (IsTrue tells → (text : List ℕ) × IsShowBegun s c shown text × AppendsPrefix old new text) → TakesBegun tells (IsNothingOr (IsRunBegun c show)) old new
 show_begun s tells c show shown old new held done is begun t = go (begun t)
   where
-    kind : (text : List ℕ) → IsShowBegun s tells c shown text → IsRunBegun c show text
-    kind text (inl front) = inl (record { store = s; held = held t; done = done; read = front.0; are_read = subst (λ (b : Bool). AreRead s b c 0 front.0) t front.1; printed = front.2 })
-    kind text (inr whole) = inr (subst (IsRunText c show) (sym whole.2) (some_text s c (held t) show shown done whole.0 whole.1 (is (all_edges whole.0))))
+    kind : (text : List ℕ) → IsShowBegun s c shown text → IsRunBegun c show text
+    kind text (inl front) = inl (record { store = s; held = held t; done = done; printed = front })
+    kind text (inr whole) = inr (subst (IsRunText c show) (sym whole.3) (some_text s c (held t) show shown done whole.0 whole.1 whole.2 (is (all_edges whole.0))))
 
-    go : (text : List ℕ) × IsShowBegun s tells c shown text × AppendsPrefix old new text → (text : List ℕ) × IsNothingOr (IsRunBegun c show) text × AppendsPrefix old new text
+    go : (text : List ℕ) × IsShowBegun s c shown text × AppendsPrefix old new text → (text : List ℕ) × IsNothingOr (IsRunBegun c show) text × AppendsPrefix old new text
     go b = (b.0, inr (kind b.0 b.1), b.2)
 
--- no partition was read yet
-pub none_read : (s : OpenStore) (tells : Bool) (c : Contents) → AreRead s tells c 0 []
-none_read s tells c = record { within = omega arith; each = λ i lt. absurd (omega arith) }
+-- a text that was taken whole
+pub whole_taken : (old new : Option (List ℕ)) (text : List ℕ) → Appends old new text → AppendsPrefix old new text
+whole_taken old new text a = (length text, omega arith, subst (λ (l : List ℕ). Appends old new l) (sym (take_all (length text) text (omega arith))) a)
 
 -- ---- the label that is shown
 

@@ -42,6 +42,7 @@ use Rattle.graspan_top.specs.Run.{IsFinishedStore}
 use Rattle.graspan_top.specs.declared.status.Status.{Status}
 use Rattle.graspan_top.specs.declared.status.Status.TheVariants.{Done, Words, InputFault, OtherInput, ReadFault, DiskFault, WriteFault, NoMemory, BadStore, NoStore, Unfinished, NotKnown}
 use Rattle.graspan_top.proofs.LookLemmas.{one_number, status_at}
+use Rattle.graspan_top.proofs.ShowLemmas.{told_of_read}
 
 -- ---- a prefix of the text
 
@@ -163,7 +164,7 @@ module _ (s : OpenStore) (c now : Contents) (same : now ≡ c) (tells : Bool) (h
   pub dump_whole : (read : List (List Born)) → HasNoWork s.manifest → ArePartsPrinted {T = Unit {0}} s tells now 0 (length s.manifest.parts) (dump_text s.manifest.labels) old new (Ok tt) read → IsTrue tells → (text : List ℕ) × IsDumpText c text × Appends old new text
   dump_whole read done printed t =
       let p = subst (λ (x : Contents). ArePartsPrinted {T = Unit {0}} s tells x 0 (length s.manifest.parts) (dump_text s.manifest.labels) old new (Ok tt) read) same printed in
-      let end : IsFinishedStore c s.manifest read = record { slot = s.slot; current = (held t).current; rules = s.rules; grammar = (held t).grammar; listed = read_listed read t p.are_read p.all; done = done } in
+      let end : IsFinishedStore c s.manifest read = record { slot = s.slot; current = (held t).current; rules = s.rules; grammar = (held t).grammar; listed = read_listed read t p.are_read p.all; told = told_of_read s tells c read p.are_read p.all; done = done } in
       (dump_text s.manifest.labels (all_edges read), record { manifest = s.manifest; parts = read; end = end; printed = refl }, p.taken)
 
 -- ---- query
@@ -277,7 +278,7 @@ module _ (s : OpenStore) (tells : Bool) (label : LabelId) (from : ℕ) (to : Opt
     text_of : (name : List ℕ) (q : List Born) → slice_get s.manifest.labels label.0 ≡ Some name → HasNoWork s.manifest → AreRead s tells c asked (q ∷ []) → IsQueryText c name from to (whole q)
     text_of name q is done are =
         let r = first_read q [] are in
-        let end : IsPartEnd c s.manifest from q = record { current = (s.slot, held.current); rules = s.rules; grammar = held.grammar; done = done; spells = r.spells t; fits = r.fits } in
+        let end : IsPartEnd c s.manifest from q = record { current = (s.slot, held.current); rules = s.rules; grammar = held.grammar; done = done; spells = r.spells t; fits = r.fits; told = r.told } in
         record { manifest = s.manifest; edges = q; end = end; number = label; is_number = is; printed = refl }
 
     whole_read : (name : List ℕ) (old new : Option (List ℕ)) (read : List (List Born)) → slice_get s.manifest.labels label.0 ≡ Some name → HasNoWork s.manifest → IsTaken {T = Unit {0}} c old new (Ok tt) read → (text : List ℕ) × IsQueryText c name from to text × Appends old new text

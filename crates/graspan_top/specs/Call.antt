@@ -12,7 +12,6 @@ use Rattle.graspan_top.specs.Command.{IsBegunOf, IsTextOf, knows, stages_of}
 use Rattle.graspan_top.specs.Given.{Given}
 use Rattle.graspan_top.specs.Printed.{BeginsWhole, Ends, Prints}
 use Rattle.graspan_top.specs.Refusals.{Explained, Rises, rises_of}
-use Rattle.graspan_top.specs.Run.{StopsLeave}
 use Rattle.graspan_top.specs.declared.status.Status.{Status}
 use Rattle.graspan_top.specs.declared.status.Status.TheVariants.{NoMemory, Words}
 
@@ -62,7 +61,3 @@ abbrev pub LeavesClosure : {D : Type 0} → disk.Ghosts D → (List ℕ → Opti
 LeavesClosure d told edges grammar old new =
     IsTrue d.tells → (g e : List ℕ) → told grammar ≡ Some g → told edges ≡ Some e → IsLeft (texts_of g e) (d.seen old)
     → AreExact (texts_of g e) (d.seen new) × ((c : Contents) → d.may_leave new c → AreExact (texts_of g e) c)
-
--- whatever a crash may leave at any moment since then is what a later run goes on from
-abbrev pub MayBeStopped : {D : Type 0} → disk.Ghosts D → (List ℕ → Option (List ℕ)) → List ℕ → List ℕ → D → D → Type 0
-MayBeStopped d told edges grammar old new = StopsLeave d.may_leave d.moment d.left_since told edges grammar old new

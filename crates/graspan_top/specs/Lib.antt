@@ -10,3 +10,5 @@ pub mod Command
 pub mod Stages
 pub mod Call
 pub mod Emission
+pub mod Stops
+pub mod Runs

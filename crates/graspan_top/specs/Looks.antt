@@ -20,6 +20,7 @@ use Rattle.manifest_switch.specs.Slots.{current_of}
 use Rattle.store_law.specs.Listed.{ends_of, expect_of, part_file, part_of}
 use Rattle.store_law.specs.Left.{HasNoWork}
 use Rattle.open_store.specs.Copy.{IsCopyRead}
+use Rattle.open_store.specs.PartRead.{IsTold}
 use Rattle.open_store.specs.Store.{IsHeld, OpenStore}
 use Rattle.query_text.specs.Text.{IsStateLine, answers_in, answers_text, dump_text, head_text}
 use Rattle.query_text.specs.Answered.{AreRead, IsBlamed, first_asked, wanted}
@@ -110,7 +111,8 @@ dump_stages tells c disk_rose out_rose =
 
 -- ---- query
 
--- The contents hold a store without work left, and these are the edges of the partition that holds the vertex.
+-- The contents hold a store without work left, and these are the edges of the partition that holds the vertex, of
+-- which the manifest tells.
 pub record IsPartEnd (c : Contents) (m : Manifest) (u : ℕ) (edges : List Born) : Type 0 where
   pub current : HasCurrent c m
   pub rules : List Rule
@@ -118,6 +120,7 @@ pub record IsPartEnd (c : Contents) (m : Manifest) (u : ℕ) (edges : List Born)
   pub done : HasNoWork m
   pub spells : SpellsPart (c (part_file m (place (ends_of m) u))) (part_of m (place (ends_of m) u) edges)
   pub fits : FitsPart (expect_of m (normal_form rules).fresh (place (ends_of m) u)) (part_of m (place (ends_of m) u) edges)
+  pub told : IsTold m (place (ends_of m) u) edges
 
 abbrev pub count_line : ℕ → List ℕ
 count_line n = codes "count " ++ (decimal n ++ 10 ∷ [])

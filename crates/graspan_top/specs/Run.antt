@@ -1,5 +1,5 @@
 -- What a run answers, prints and leaves.
-use Rattle.std.specs.Prelude.{◌≡◌, ◌⊎◌, ℕ, true, Bool, IsTrue, List, [], ◌∷◌, ◌++◌, length, slice_get, Contains, codes, Option, Some, None, Ok, IfSome}
+use Rattle.std.specs.Prelude.{◌≡◌, ◌⊎◌, ◌<◌, ℕ, true, Bool, IsTrue, List, [], ◌∷◌, ◌++◌, length, slice_get, slice_index_or, Contains, codes, Option, Some, None, Ok, IfSome}
 use Rattle.graph_words.specs.declared.types.LabelId.{LabelId}
 use Rattle.graph_words.specs.declared.types.Born.{Born}
 use Rattle.graph_words.specs.declared.types.Rule.{Rule}
@@ -12,7 +12,6 @@ use Rattle.grammar_norm.specs.GrammarText.{grammar_fault, grammar_names}
 use Rattle.normal_law.specs.NormalForm.{normal_form}
 use Rattle.closing_machine.specs.Parts.{all_edges}
 use Rattle.disk_model.specs.Disk.{Contents}
-use Rattle.disk_model.specs.Crash.{LeavesOnly}
 use Rattle.faults.specs.declared.form_kind.FormKind.{FormKind}
 use Rattle.manifest_codec.specs.declared.types.Manifest.{Manifest}
 use Rattle.manifest_switch.specs.declared.slot.Slot.{Slot}
@@ -25,23 +24,29 @@ use Rattle.store_law.specs.Left.{HasNoWork, IsLeft, IsStoreOf}
 use Rattle.open_store.specs.Answers.{DiffersFirst, compare_causes, copy_of}
 use Rattle.open_store.specs.Copy.{IsCopyRead}
 use Rattle.open_store.specs.Opened.{IsBadStore}
+use Rattle.open_store.specs.PartRead.{IsTold}
 use Rattle.open_store.specs.Store.{IsHeld, OpenStore}
 use Rattle.store.specs.Import.{texts_of}
 use Rattle.closer.specs.Answers.{BlamesOnTheWay}
 use Rattle.query_text.specs.Text.{answers_text, head_text, tally_text}
-use Rattle.query_text.specs.Answered.{AreRead, IsBlamed, print_causes}
+use Rattle.query_text.specs.Answered.{IsBlamed, print_causes}
 use Rattle.graspan_top.specs.Given.{Given, HasCurrentWith, WhereCurrent, WhereTold}
 use Rattle.graspan_top.specs.Refusals.{ArePassed, Rises, Stage, no_rise}
 
 -- ---- what a run prints
 
--- The contents hold a store without work left, by this manifest and with these partitions.
+-- the manifest's counts and newest births are those of these partitions
+abbrev pub AreTold : Manifest → List (List Born) → Type 0
+AreTold m parts = (i : ℕ) → i < length m.parts → IsTold m i (slice_index_or parts i [])
+
+-- The contents hold a store without work left, by this manifest and with these partitions, of which it tells.
 pub record IsFinishedStore (c : Contents) (m : Manifest) (parts : List (List Born)) : Type 0 where
   pub slot : Slot
   pub current : current_of c ≡ Ok (At slot m)
   pub rules : List Rule
   pub grammar : IsCopyRead m (c 2) rules
   pub listed : AreListed c m (normal_form rules).fresh parts
+  pub told : AreTold m parts
   pub done : HasNoWork m
 
 -- the answers of the label that is shown, and nothing where none is
@@ -61,16 +66,15 @@ pub record IsRunText (c : Contents) (show : Option (List ℕ)) (text : List ℕ)
   pub shown_is : IsShownText manifest.labels (all_edges parts) show shown
   pub printed : text ≡ head_text manifest ++ (tally_text manifest.labels (all_edges parts) ++ (shown ++ done_line))
 
--- the lines of vertices and partitions of a store without work left, and those of its labels over the first partitions, as far as these can be read
+-- the lines of vertices and partitions of a store without work left
 pub record IsRunFront (c : Contents) (text : List ℕ) : Type 0 where
   pub store : OpenStore
   pub held : IsHeld store c
   pub done : HasNoWork store.manifest
-  pub read : List (List Born)
-  pub are_read : AreRead store true c 0 read
-  pub printed : text ≡ head_text store.manifest ++ tally_text store.manifest.labels (all_edges read)
+  pub printed : text ≡ head_text store.manifest
 
--- what a run may have begun to print: its text, or such a front
+-- What a run may have begun to print: its text, or such a front. The lines of labels begin only where all partitions
+-- can be read.
 abbrev pub IsRunBegun : Contents → Option (List ℕ) → List ℕ → Type 0
 IsRunBegun c show text = IsRunFront c text ⊎ IsRunText c show text
 
@@ -86,18 +90,10 @@ pub record IsOpenedAs (x : Given) (edges grammar : List ℕ) (seen : Contents) (
   pub left : (g e : List ℕ) → x.told grammar ≡ Some g → x.told edges ≡ Some e → IsLeft (texts_of g e) x.before
       → (parts : List (List Born)) × IsStoreOf (texts_of g e) seen s.manifest parts
 
--- the contents with which the closing begins: those from before, but for the slots, or a store that was made on a blank disk
-abbrev pub BeginsWith : Given → Contents → Type 0
-BeginsWith x seen = (current_of x.before ≡ Ok Blank) ⊎ Stays x.before seen
-
--- ---- what a stopped run leaves
-
--- Where each image at the start is blank or what stopped runs of these files leave, so is each that a crash may leave at any moment since.
-abbrev pub StopsLeave : {D : Type 0} → (D → Contents → Type 0) → (D → ℕ) → (D → ℕ → Contents → Type 0)
-    → (List ℕ → Option (List ℕ)) → List ℕ → List ℕ → D → D → Type 0
-StopsLeave images moment left_since told edges grammar old new = (g e : List ℕ) → told grammar ≡ Some g
-    → told edges ≡ Some e → ((c : Contents) → images old c → IsLeft (texts_of g e) c)
-    → LeavesOnly moment left_since old new (IsLeft (texts_of g e))
+-- The closing begins with the contents from before, but for the slots, or with a store that was made of some texts, of
+-- which no file is ever blamed.
+abbrev pub BeginsWith : Given → Contents → OpenStore → Type 0
+BeginsWith x seen s = Stays x.before seen ⊎ ((t : Texts) × (parts : List (List Born)) × IsStoreOf t seen s.manifest parts)
 
 -- ---- the order in which a run refuses, stage by stage
 
@@ -180,12 +176,12 @@ ready_stages x edges grammar rose =
 abbrev pub Accepts : Given → List ℕ → List ℕ → Type 0
 Accepts x edges grammar = ArePassed (ready_stages x edges grammar no_rise)
 
--- A partition that is loaded for the closing isn't what this file spells: that of a store on the way, from the one with
--- which the closing began.
+-- A partition that is loaded for the closing isn't what this file spells: that of a store on the way, from the one that
+-- was open before. The file is the one of that store, with its bytes from before.
 pub record BlamesClosing (x : Given) (edges grammar : List ℕ) (file place : ℕ) (kind : FormKind) : Type 0 where
   pub seen : Contents
   pub store : OpenStore
-  pub begins : BeginsWith x seen
+  pub stays : Stays x.before seen
   pub opened : IsOpenedAs x edges grammar seen store
   pub blames : BlamesOnTheWay store true seen file place kind
 

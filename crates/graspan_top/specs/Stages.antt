@@ -11,10 +11,10 @@ use Rattle.open_store.specs.Answers.{DiffersFirst, compare_causes, copy_of}
 use Rattle.open_store.specs.Store.{IsHeldAlone, OpenStore}
 use Rattle.closing_machine.specs.Parts.{all_edges}
 use Rattle.query_text.specs.Text.{answers_text, head_text, tally_text}
-use Rattle.query_text.specs.Answered.{AreListedIn, AreRead, IsBlamed}
+use Rattle.query_text.specs.Answered.{AreListedIn, IsBlamed}
 use Rattle.graspan_top.specs.Given.{Given, WhereTold}
 use Rattle.graspan_top.specs.Refusals.{Stage}
-use Rattle.graspan_top.specs.Run.{Accepts, IsGoodGrammar, IsOpenedAs, done_line, label_stage, printing_stage}
+use Rattle.graspan_top.specs.Run.{Accepts, AreTold, IsGoodGrammar, IsOpenedAs, done_line, label_stage, printing_stage}
 
 -- a good grammar was read, which is the file where it is told
 pub record IsGrammarFile (told : Option (List ℕ)) (text : List ℕ) : Type 0 where
@@ -63,10 +63,9 @@ abbrev pub show_stages : OpenStore → Bool → Contents → Option (List ℕ) �
 show_stages s tells c show disk_rose out_rose =
     label_stage tells c show ∷ printing_stage disk_rose out_rose (IsBlamed s tells c 0 (length s.manifest.parts)) ∷ []
 
--- what the printing of a run has begun: lines over the first partitions, or over all of them
-abbrev pub IsShowBegun : OpenStore → Bool → Contents → Option LabelId → List ℕ → Type 0
-IsShowBegun s tells c shown text =
-    ((read : List (List Born)) × AreRead s tells c 0 read × (text ≡ head_text s.manifest ++ tally_text s.manifest.labels (all_edges read)))
-    ⊎ ((parts : List (List Born)) × AreListedIn s c parts
+-- what the printing of a run has begun: the lines of vertices and partitions, or all lines
+abbrev pub IsShowBegun : OpenStore → Contents → Option LabelId → List ℕ → Type 0
+IsShowBegun s c shown text = (text ≡ head_text s.manifest)
+    ⊎ ((parts : List (List Born)) × AreListedIn s c parts × AreTold s.manifest parts
     × (text ≡ head_text s.manifest ++ (tally_text s.manifest.labels (all_edges parts)
     ++ (shown_text shown (all_edges parts) ++ done_line))))

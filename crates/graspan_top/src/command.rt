@@ -9,7 +9,8 @@ ghost use Rattle.store.specs.Import.{texts_of};
 ghost use Rattle.closing_options.specs.declared.RunOptions.{RunOptions as TheOptions};
 ghost use Rattle.command_words.specs.Command.{Reading, Said, run as runs, said};
 ghost use Rattle.graspan_top.specs.declared.status.Status.TheVariants.{Done, NoMemory, Words, WriteFault};
-ghost use Rattle.graspan_top.specs.Call.{AreUnread, IsExplained, IsPrinted, LeavesClosure, MayBeStopped, RefusesWords, the_call};
+ghost use Rattle.graspan_top.specs.Call.{AreUnread, IsExplained, IsPrinted, LeavesClosure, RefusesWords, the_call};
+ghost use Rattle.graspan_top.specs.Stops.{KeepsWork, Spares};
 ghost use Rattle.graspan_top.specs.Command.{IsBegunOf, IsLook, IsTextOf, knows};
 ghost use Rattle.graspan_top.specs.Printed.{Begins, Ends as EndsAs, PrintsFirst, status_of as the_status};
 
@@ -46,7 +47,11 @@ fn carry_out<I: Inputs, D: Disk, O: Sink>(
         × ((c : Contents) → D.may_leave disk.new c → AreExact (texts_of g e) c) }
     ensures stops { (edges grammar : List ℕ) (options : TheOptions) (show : Option (List ℕ))
         → said command.entry ≡ runs edges grammar options show
-        → MayBeStopped D.Disk (I.told inputs.old) edges grammar disk.old disk.new }
+        → KeepsWork D.Disk (I.told inputs.old) edges grammar disk.old disk.new }
+    ensures spares { (edges grammar : List ℕ) (options : TheOptions) (show : Option (List ℕ))
+        → said command.entry ≡ runs edges grammar options show
+        → Spares D.Disk (record { told = I.told inputs.old; tells = D.tells; before = D.seen disk.old }) edges grammar
+        (the_status result) disk.old disk.new }
     ensures looks { IsLook (said command.entry) → OnlyLooks D.Disk disk.old disk.new }
     ensures keeps { KeepsInputs I.Inputs inputs.old inputs.new }
     ensures later { D.faults disk.old ≤ D.faults disk.new }
@@ -148,10 +153,17 @@ pub fn graspan<I: Inputs, D: Disk, O: Sink>(
         → Reading words.now (runs edges grammar options show) → result ≡ Done
         → LeavesClosure D.Disk (I.told inputs.old) edges grammar disk.old disk.new }
 
-    // A run that is stopped at any moment, also within a write, leaves what a later run goes on from.
+    // A run that is stopped at any moment, also within a write, leaves what a later run goes on from, and stores of
+    // whatever texts are kept, with each edge that they list.
     ensures stops { (edges grammar : List ℕ) (options : TheOptions) (show : Option (List ℕ))
         → Reading words.now (runs edges grammar options show)
-        → MayBeStopped D.Disk (I.told inputs.old) edges grammar disk.old disk.new }
+        → KeepsWork D.Disk (I.told inputs.old) edges grammar disk.old disk.new }
+
+    // A run that refuses its files leaves a store as it was, and the disk where the grammar has a fault.
+    ensures spares { (edges grammar : List ℕ) (options : TheOptions) (show : Option (List ℕ))
+        → Reading words.now (runs edges grammar options show)
+        → Spares D.Disk (record { told = I.told inputs.old; tells = D.tells; before = D.seen disk.old }) edges grammar
+        result disk.old disk.new }
 
     // The other commands change nothing, and no file that is read changes.
     ensures looks { (c : Said) → Reading words.now c → IsLook c → OnlyLooks D.Disk disk.old disk.new }

@@ -9,7 +9,9 @@ mod looks;
 mod print;
 mod ready_store;
 mod run;
+mod runs_law;
 mod status;
 
 pub use command::graspan;
+pub use runs_law::runs_in_a_row;
 pub use status::Status;

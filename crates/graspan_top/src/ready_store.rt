@@ -1,15 +1,16 @@
 //! A store of two files is made, or found and compared with them.
-ghost use Rattle.std.specs.Prelude.{◌≡◌, ◌≤◌, ℕ, List, IfOk, IfErr, OnOk, IsTrue};
-ghost use Rattle.disk_model.specs.View.{DiskRose, OnlyLooks};
+ghost use Rattle.std.specs.Prelude.{◌≡◌, ◌≤◌, ℕ, List, Some, IfOk, IfErr, OnOk, IsTrue};
+ghost use Rattle.disk_model.specs.View.{DiskRose, LeavesBy, OnlyLooks};
+ghost use Rattle.manifest_switch.specs.Steps.{Stays};
 ghost use Rattle.faults.specs.declared.kinds.InputFile.TheVariants.{Edges, Grammar};
 ghost use Rattle.store_fault.specs.Faults.{why_of};
 ghost use Rattle.io_edge.specs.View.{KeepsInputs, ReadRose};
 ghost use Rattle.open_store.specs.Answers.{copy_of};
 ghost use Rattle.graspan_top.specs.Given.{Given as AGiven};
 ghost use Rattle.graspan_top.specs.Refusals.{FirstRefusal, Refuses, rises_in};
-ghost use Rattle.graspan_top.specs.Run.{BeginsWith, ready_stages};
-ghost use Rattle.graspan_top.specs.Call.{MayBeStopped};
+ghost use Rattle.graspan_top.specs.Run.{BeginsWith, IsGoodGrammar, ready_stages};
 ghost use Rattle.graspan_top.specs.Stages.{IsCopied, IsGrammarFile, IsReady, compare_stages};
+ghost use Rattle.graspan_top.specs.Stops.{IsNotBlank, KeepsWork};
 
 use crate::grammar_file::read_grammar_file;
 use crate::status::Status;
@@ -67,13 +68,14 @@ fn found_or_made<I: Inputs, D: Disk>(
     ensures ready { IfOk result (IsReady (record
         { told = I.told inputs.old; tells = D.tells; before = D.seen disk.old }) files.now.edges.now
         files.now.grammar.now (D.seen disk.new) (D.may_leave disk.new)) }
-    ensures begins { IfOk result (λ _. IsTrue D.tells
+    ensures begins { IfOk result (λ s. IsTrue D.tells
         → BeginsWith (record { told = I.told inputs.old; tells = D.tells; before = D.seen disk.old })
-        (D.seen disk.new)) }
+        (D.seen disk.new) s) }
     ensures refused { IfErr result (λ fault. FirstRefusal (ready_stages
         (record { told = I.told inputs.old; tells = D.tells; before = D.seen disk.old }) files.now.edges.now
         files.now.grammar.now (rises_in I.Inputs D.Disk inputs.old inputs.new disk.old disk.new)) (why_of fault)) }
-    ensures stops { MayBeStopped D.Disk (I.told inputs.old) files.now.edges.now files.now.grammar.now disk.old disk.new }
+    ensures stops { KeepsWork D.Disk (I.told inputs.old) files.now.edges.now files.now.grammar.now disk.old disk.new }
+    ensures spares { IsNotBlank D.tells (D.seen disk.old) → LeavesBy D.Disk disk.old disk.new Stays }
     ensures keeps { KeepsInputs I.Inputs inputs.old inputs.new }
     ensures later { D.faults disk.old ≤ D.faults disk.new }
 {
@@ -97,13 +99,15 @@ pub(crate) fn ready_store<I: Inputs, D: Disk>(
     ensures ready { IfOk result (IsReady (record
         { told = I.told inputs.old; tells = D.tells; before = D.seen disk.old }) files.now.edges.now
         files.now.grammar.now (D.seen disk.new) (D.may_leave disk.new)) }
-    ensures begins { IfOk result (λ _. IsTrue D.tells
+    ensures begins { IfOk result (λ s. IsTrue D.tells
         → BeginsWith (record { told = I.told inputs.old; tells = D.tells; before = D.seen disk.old })
-        (D.seen disk.new)) }
+        (D.seen disk.new) s) }
     ensures refused { IfErr result (Refuses (ready_stages
         (record { told = I.told inputs.old; tells = D.tells; before = D.seen disk.old }) files.now.edges.now
         files.now.grammar.now (rises_in I.Inputs D.Disk inputs.old inputs.new disk.old disk.new))) }
-    ensures stops { MayBeStopped D.Disk (I.told inputs.old) files.now.edges.now files.now.grammar.now disk.old disk.new }
+    ensures stops { KeepsWork D.Disk (I.told inputs.old) files.now.edges.now files.now.grammar.now disk.old disk.new }
+    ensures spares { IsNotBlank D.tells (D.seen disk.old) → LeavesBy D.Disk disk.old disk.new Stays }
+    ensures faulty { (g : List ℕ) → I.told inputs.old files.now.grammar.now ≡ Some g → (IsGoodGrammar g → ⊥) → disk.new ≡ disk.old }
     ensures keeps { KeepsInputs I.Inputs inputs.old inputs.new }
     ensures later { D.faults disk.old ≤ D.faults disk.new }
 {

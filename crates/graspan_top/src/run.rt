@@ -17,9 +17,9 @@ ghost use Rattle.graspan_top.specs.declared.status.Status.TheVariants.{Done};
 ghost use Rattle.graspan_top.specs.Given.{Given as AGiven};
 ghost use Rattle.graspan_top.specs.Printed.{Begins, IsNothingOr, PrintsFirst, status_of};
 ghost use Rattle.graspan_top.specs.Refusals.{Explained, Refuses, rises_in, rises_of};
-ghost use Rattle.graspan_top.specs.Run.{IsRunBegun, IsRunText, closed_stages, done_line, run_stages};
-ghost use Rattle.graspan_top.specs.Call.{MayBeStopped};
+ghost use Rattle.graspan_top.specs.Run.{AreTold, IsRunBegun, IsRunText, closed_stages, done_line, run_stages};
 ghost use Rattle.graspan_top.specs.Stages.{IsReady, IsShowBegun, show_stages, shown_text};
+ghost use Rattle.graspan_top.specs.Stops.{KeepsWork, Spares};
 
 use crate::labels::shown_number;
 use crate::ready_store::{Files, ready_store};
@@ -70,9 +70,10 @@ fn print_run<D: Disk, O: Sink>(
         (head_text store.now.manifest ++ (tally_text store.now.manifest.labels (all_edges parts)
         ++ (shown_text shown (all_edges parts) ++ done_line))) }
     ensures begun { IsTrue D.tells → OnErr result
-        ((text : List ℕ) × IsShowBegun store.now D.tells (D.seen disk.old) shown text
+        ((text : List ℕ) × IsShowBegun store.now (D.seen disk.old) shown text
         × AppendsPrefix (O.told out.old) (O.told out.new) text) }
-    ensures listed { IsTrue D.tells → OnOk result ((parts : List (List ABorn)) × AreListedIn store.now (D.seen disk.old) parts) }
+    ensures listed { IsTrue D.tells → OnOk result ((parts : List (List ABorn))
+        × AreListedIn store.now (D.seen disk.old) parts × AreTold store.now.manifest parts) }
     ensures looks { OnlyLooks D.Disk disk.old disk.new }
     ensures writes { O.faults out.old ≤ O.faults out.new }
     ensures cause { HasReason why_not_printed (print_causes (WriteRose O.Sink out.old out.new) (DiskRose D.Disk disk.old disk.new)
@@ -123,7 +124,9 @@ fn closed_store<I: Inputs, D: Disk>(
     ensures refused { IfErr result (Refuses (closed_stages
         (record { told = I.told inputs.old; tells = D.tells; before = D.seen disk.old }) files.now.edges.now
         files.now.grammar.now (D.seen disk.new) (rises_in I.Inputs D.Disk inputs.old inputs.new disk.old disk.new))) }
-    ensures stops { MayBeStopped D.Disk (I.told inputs.old) files.now.edges.now files.now.grammar.now disk.old disk.new }
+    ensures stops { KeepsWork D.Disk (I.told inputs.old) files.now.edges.now files.now.grammar.now disk.old disk.new }
+    ensures spares { Spares D.Disk (record { told = I.told inputs.old; tells = D.tells; before = D.seen disk.old })
+        files.now.edges.now files.now.grammar.now (status_of result) disk.old disk.new }
     ensures keeps { KeepsInputs I.Inputs inputs.old inputs.new }
     ensures later { D.faults disk.old ≤ D.faults disk.new }
 {
@@ -152,7 +155,9 @@ pub(crate) fn run<I: Inputs, D: Disk, O: Sink>(
         → I.told inputs.old files.now.edges.now ≡ Some e → IsLeft (texts_of g e) (D.seen disk.old)
         → status_of result ≡ Done
         → AreExact (texts_of g e) (D.seen disk.new) × ((c : Contents) → D.may_leave disk.new c → AreExact (texts_of g e) c) }
-    ensures stops { MayBeStopped D.Disk (I.told inputs.old) files.now.edges.now files.now.grammar.now disk.old disk.new }
+    ensures stops { KeepsWork D.Disk (I.told inputs.old) files.now.edges.now files.now.grammar.now disk.old disk.new }
+    ensures spares { Spares D.Disk (record { told = I.told inputs.old; tells = D.tells; before = D.seen disk.old })
+        files.now.edges.now files.now.grammar.now (status_of result) disk.old disk.new }
     ensures keeps { KeepsInputs I.Inputs inputs.old inputs.new }
     ensures later { D.faults disk.old ≤ D.faults disk.new }
     ensures writes { O.faults out.old ≤ O.faults out.new }

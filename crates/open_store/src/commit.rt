@@ -1,14 +1,19 @@
 //! Another manifest takes the place of the current one.
-ghost use Rattle.std.specs.Prelude.{◌≡◌, ◌≤◌, ℕ, IsTrue, length, take, IfOk, IsErrOf};
+ghost use Rattle.std.specs.Prelude.{◌≡◌, ◌≤◌, ℕ, IsTrue, List, Contains, length, take, IfOk, IsErrOf};
+ghost use Rattle.graph_words.specs.declared.types.Born.{Born as ABorn};
 ghost use Rattle.faults.specs.Reasons.{HasReason, blames_none};
 ghost use Rattle.store_fault.specs.Faults.{why_of};
+ghost use Rattle.closing_machine.specs.Parts.{all_edges};
 ghost use Rattle.disk_model.specs.Disk.{Contents};
 ghost use Rattle.disk_model.specs.Crash.{LeavesOnly};
 ghost use Rattle.disk_model.specs.View.{IsDurable, on_disk};
 ghost use Rattle.manifest_codec.specs.Spelling.{FitsManifest};
 ghost use Rattle.manifest_switch.specs.Slots.{next_generation, other};
 ghost use Rattle.manifest_switch.specs.Steps.{IsAmid, IsSwitched};
+ghost use Rattle.store_law.specs.Kept.{KeepsAmong};
+ghost use Rattle.store_law.specs.Left.{IsStoreOf};
 ghost use Rattle.store_law.specs.Listed.{ends_of};
+ghost use Rattle.store_law.specs.Texts.{Texts};
 ghost use Rattle.store_fault.specs.declared.fault.StoreFault.TheVariants.{NoMemory};
 ghost use Rattle.open_store.specs.Store.{IsHeldAlone};
 
@@ -43,7 +48,8 @@ impl Store {
     ///
     /// All memory is taken before any call of the disk. Whatever it answers, a crash at any moment
     /// leaves what was current with all files but the slots, or `next` as the current manifest with
-    /// all other files as a read gave them at the start. After Ok it is the only open slot.
+    /// all other files as a read gave them at the start. So stores of the texts of which `next` is a
+    /// store are kept, with each edge that the files of `next` list with the same birth. After Ok it is the only open slot.
     pub fn commit<D: Disk>(
         self,
         alloc: Global,
@@ -56,6 +62,8 @@ impl Store {
         requires grammar { next.grammar_len ≡ self.manifest.grammar_len }
         requires labels { take (length self.manifest.labels) next.labels ≡ self.manifest.labels }
         ensures any_moment { LeavesOnly D.moment D.left_since disk.old disk.new (IsAmid (D.may_leave disk.old) (D.seen disk.old) next) }
+        ensures stores { (t : Texts) (parts : List (List ABorn)) → IsStoreOf t (D.seen disk.old) next parts
+            → KeepsAmong D.Disk disk.old disk.new t (Contains (all_edges parts)) }
         ensures store { IfOk result (λ s. s ≡ record { slot = other self.slot; manifest = next; rules = self.rules; ends = ends_of next }) }
         ensures held { IfOk result (λ s. (c : Contents) → D.may_leave disk.new c → IsHeldAlone s c) }
         ensures reads { IsTrue D.tells → IfOk result (λ s. IsSwitched s.slot next (D.seen disk.old) (D.seen disk.new)) }

@@ -6,6 +6,7 @@ ghost use Rattle.disk_model.specs.Disk.{Contents};
 ghost use Rattle.disk_model.specs.View.{IsDurable, LeavesBy, OnlyLooks, on_disk};
 ghost use Rattle.manifest_codec.specs.Spelling.{FitsManifest};
 ghost use Rattle.manifest_switch.specs.Steps.{Stays};
+ghost use Rattle.store_law.specs.Kept.{KeepsStores};
 ghost use Rattle.store_law.specs.Listed.{ends_of};
 ghost use Rattle.open_store.specs.declared.opened.OpenMode.TheVariants.{Change, Look};
 ghost use Rattle.open_store.specs.Copy.{IsBadCopy, IsCopyRead};
@@ -108,13 +109,15 @@ fn grasp<D: Disk>(alloc: Global, disk: &mut D) -> Result<Opened, StoreFault>
 ///
 /// With `Look` there is no sync and no write. With `Change` the disk is synced first, and of two open
 /// slots the older one is closed; a crash at any moment leaves what was current, and all files but
-/// the slots. After Ok the store's slot is the only open one in each image, or none is.
+/// the slots. So stores are kept, whatever texts they are of, with each edge that they list. After Ok the store's slot
+/// is the only open one in each image, or none is.
 pub fn open<D: Disk>(alloc: Global, disk: &mut D, mode: OpenMode) -> Result<Opened, StoreFault>
     ensures opened { IsTrue D.tells → IfOk result (IsOpened (D.seen disk.new)) }
     ensures alone { mode ≡ Change → IfOk result (λ o. (c : Contents) → D.may_leave disk.new c → IsOpenedAlone c o) }
     ensures stays { IsTrue D.tells → IfOk result (λ _. Stays (D.seen disk.old) (D.seen disk.new)) }
     ensures synced { mode ≡ Change → IfOk result (λ _. IsDurable D.Disk disk.new) }
     ensures any_moment { LeavesBy D.Disk disk.old disk.new Stays }
+    ensures stores { KeepsStores D.Disk disk.old disk.new }
     ensures looks { mode ≡ Look → OnlyLooks D.Disk disk.old disk.new }
     ensures later { D.faults disk.old ≤ D.faults disk.new }
     ensures cause { HasReason why_of (on_disk D.Disk disk.old disk.new

@@ -1,6 +1,6 @@
 -- The lines of edges, part by part.
 use Rattle.std.proofs.Common.{◌≡◌, ℕ, ◌+◌, ◌-◌, ◌^◌, ◌≤◌, ◌<◌, List, [], ◌∷◌, ◌++◌, length, Result, Ok, Err, Option, refl, sym, subst, ap, ◌∙◌, append-nil, take, drop, get_or, take-append-drop, arith, length-append}
-use Rattle.std.specs.Prelude.{Bool, IsTrue, IsErrAnd, IfOk}
+use Rattle.std.specs.Prelude.{Bool, IsTrue, IsErrAnd, IfErr, IfOk, OnOk}
 use Rattle.std.specs.List.{flat_map}
 use Rattle.std.proofs.lemmas.Grind.{flat_map-append}
 use Rattle.std.proofs.lemmas.List.{length-take, take_more}
@@ -266,3 +266,21 @@ module _ (s : OpenStore) (tells : Bool) (c : Contents) (T : Type 0) (text : List
         },
         tt,
       )
+
+-- ---- faults of a write alone
+
+pub if_err_is : {T E : Type 0} (r : Result T E) (P : E → Type 0) → IsErrAnd r P → IfErr r P
+if_err_is (Ok x) P is = absurd is
+if_err_is (Err e) P is = is
+
+pub if_err_any : {T E : Type 0} (r : Result T E) (P : E → Type 0) → ((e : E) → P e) → IfErr r P
+if_err_any (Ok x) P all = tt
+if_err_any (Err e) P all = all e
+
+pub if_err_more : {T E : Type 0} (r : Result T E) (P Q : E → Type 0) → ((e : E) → P e → Q e) → IfErr r P → IfErr r Q
+if_err_more (Ok x) P Q more p = tt
+if_err_more (Err e) P Q more p = more e p
+
+pub on_ok_any : {T E : Type 0} {A : Type 0} (r : Result T E) → A → OnOk r A
+on_ok_any (Ok x) a = a
+on_ok_any (Err e) a = tt

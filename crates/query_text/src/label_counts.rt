@@ -1,5 +1,6 @@
 //! How many edges each label has.
-ghost use Rattle.std.specs.Prelude.{◌≡◌, ◌<◌, ◌≤◌, ◌+◌, ◌++◌, ◌^◌, ◌∷◌, [], ℕ, IsTrue, List, length, slice_index_or, IfOk, OnOk, OnErr};
+ghost use Rattle.std.specs.Prelude.{◌≡◌, ◌≢◌, ◌⊎◌, ◌<◌, ◌≤◌, ◌+◌, ◌++◌, ◌^◌, ◌∷◌, [], ℕ, IsTrue, List, length, slice_index_or};
+ghost use Rattle.std.specs.Prelude.{IfErr, IfOk, OnOk, OnErr};
 ghost use Rattle.faults.specs.Reasons.{HasReason, blames_none};
 ghost use Rattle.io_edge.specs.View.{WriteRose};
 ghost use Rattle.disk_model.specs.View.{DiskRose, OnlyLooks, on_disk};
@@ -13,6 +14,7 @@ ghost use Rattle.text_page.specs.Gathered.{Gathers};
 ghost use Rattle.query_text.specs.Text.{tally_text};
 ghost use Rattle.query_text.specs.Answered.{AreListedIn, AreRead, IsBlamed, ArePartsPrinted, print_causes, why_not_printed};
 ghost use Rattle.query_text.specs.Shown.{AreTallied};
+ghost use Rattle.query_text.specs.declared.fault.AnswerFault.TheVariants.{WriteFault};
 
 use crate::fault::AnswerFault;
 use crate::lines::label_line;
@@ -115,6 +117,7 @@ fn print_lines<O: Sink>(sink: &mut O, table: &LabelTable, counts: &[u64]) -> Res
     requires { length counts.now ≡ length table.now }
     ensures taken { (edges : List ABorn) → AreTallied (length table.now) edges counts.now
         → Takes (O.told sink.old) (O.told sink.new) result (tally_text table.now edges) }
+    ensures alone { IfErr result (λ fault. fault ≡ WriteFault) }
     ensures writes { O.faults sink.old ≤ O.faults sink.new }
     ensures cause { HasReason why_not_printed (print_causes (WriteRose O.Sink sink.old sink.new) ⊥
         blames_none) result }
@@ -136,15 +139,19 @@ pub fn tally<D: Disk, O: Sink>(
     store: &Store,
     sink: &mut O,
 ) -> Result<(), AnswerFault>
-    // On any disk: the counts are those of partitions that were read.
+    // On any disk: the counts are those of partitions that were read, of all of them or nothing was printed.
     ensures printed { (read : List (List ABorn))
         × ArePartsPrinted store.now D.tells (D.seen disk.old) 0 (length store.now.manifest.parts)
-        (tally_text store.now.manifest.labels) (O.told sink.old) (O.told sink.new) result read }
+        (tally_text store.now.manifest.labels) (O.told sink.old) (O.told sink.new) result read
+        × ((length read ≡ length store.now.manifest.parts) ⊎ (sink.new ≡ sink.old)) }
 
     // Where the disk tells its contents, they are those of all partitions that it lists.
     ensures listed { IsTrue D.tells → (parts : List (List ABorn)) → AreListedIn store.now (D.seen disk.old) parts
         → Takes (O.told sink.old) (O.told sink.new) result
         (tally_text store.now.manifest.labels (all_edges parts)) }
+
+    // Where it fails and no write did, nothing was printed.
+    ensures nothing { IfErr result (λ fault. fault ≢ WriteFault → sink.new ≡ sink.old) }
 
     ensures looks { OnlyLooks D.Disk disk.old disk.new }
     ensures writes { O.faults sink.old ≤ O.faults sink.new }

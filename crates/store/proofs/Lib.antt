@@ -9,3 +9,4 @@ pub mod Building
 pub mod CountLemmas
 pub mod Readying
 pub mod Switching
+pub mod Stopping

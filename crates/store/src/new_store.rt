@@ -1,5 +1,5 @@
 //! A store is made of two texts.
-ghost use Rattle.std.specs.Prelude.{◌≡◌, ◌≤◌, ℕ, List, None, IsTrue, IfOk};
+ghost use Rattle.std.specs.Prelude.{◌≡◌, ◌≤◌, ℕ, List, Some, None, IsTrue, IfOk};
 ghost use Rattle.faults.specs.Reasons.{HasReason};
 ghost use Rattle.io_edge.specs.View.{KeepsInputs, ReadRose};
 ghost use Rattle.store_fault.specs.Faults.{why_of};
@@ -7,8 +7,10 @@ ghost use Rattle.disk_model.specs.Disk.{Contents};
 ghost use Rattle.disk_model.specs.View.{DiskRose, IsDurable, LeavesBy};
 ghost use Rattle.grammar_norm.specs.GrammarText.{grammar_fault};
 ghost use Rattle.manifest_switch.specs.Slots.{IsBlank};
+ghost use Rattle.store_law.specs.Kept.{Leads};
+ghost use Rattle.store_law.specs.Left.{IsLeft};
 ghost use Rattle.open_store.specs.Store.{IsHeldAlone};
-ghost use Rattle.store.specs.Import.{import_causes, Imports, IsImportOf, IsNewStore};
+ghost use Rattle.store.specs.Import.{import_causes, Imports, IsImportOf, IsNewStore, texts_of};
 
 use crate::prepared::prepare;
 use disk_model::Disk;
@@ -55,6 +57,10 @@ pub fn import<I: Inputs, D: Disk>(
 
     // At each moment of a crash it is there as a whole or not at all.
     ensures any_moment { LeavesBy D.Disk disk.old disk.new (Imports grammar.now (I.told inputs.old edges.now) limit) }
+
+    // So whatever it answers, a crash leaves what stopped runs of both texts leave.
+    ensures stops { (file : List ℕ) → I.told inputs.old edges.now ≡ Some file
+        → Leads D.Disk disk.old disk.new IsBlank (IsLeft (texts_of grammar.now file)) }
 
     // Each fault has its cause.
     ensures cause { HasReason why_of (import_causes grammar.now (I.told inputs.old edges.now) (IsTrue D.tells)

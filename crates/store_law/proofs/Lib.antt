@@ -6,3 +6,4 @@ pub mod Named
 pub mod Telling
 pub mod Times
 pub mod Joined
+pub mod Moments

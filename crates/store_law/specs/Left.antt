@@ -1,7 +1,8 @@
 -- What stopped runs may leave, so that a run goes on from there.
-use Rattle.std.specs.Prelude.{◌≡◌, ℕ, ◌<◌, ◌⊎◌, List, length, take, Ok}
+use Rattle.std.specs.Prelude.{◌≡◌, ℕ, ◌<◌, ◌⊎◌, List, length, take, Contains, Ok}
 use Rattle.graph_words.specs.declared.types.Born.{Born}
 use Rattle.closing_machine.specs.State.{IsDirtyBy}
+use Rattle.closing_machine.specs.Parts.{all_edges}
 use Rattle.closing_machine.specs.Tells.{Tells}
 use Rattle.closing_machine.specs.Holds.{IsClosingState}
 use Rattle.disk_model.specs.Disk.{Contents}
@@ -54,6 +55,14 @@ pub record IsStore (t : Texts) (c : Contents) (m : Manifest) (parts : List (List
 abbrev pub HasNoWork : Manifest → Type 0
 HasNoWork m = (i j : ℕ) → i < length m.parts → j < length m.parts → IsDirtyBy (counts_of m.map) (joined_of m.marks) (newest_of m.marks) i j → ⊥
 
+-- the contents are a store of the texts
+abbrev pub HoldsStore : Texts → Contents → Type 0
+HoldsStore t c = (m : Manifest) × (parts : List (List Born)) × IsStore t c m parts
+
+-- and it lists this edge with this birth
+abbrev pub ListsBorn : Texts → Born → Contents → Type 0
+ListsBorn t b c = (m : Manifest) × (parts : List (List Born)) × IsStore t c m parts × Contains (all_edges parts) b
+
 -- the contents are blank, or a store of the texts
 abbrev pub IsLeft : Texts → Contents → Type 0
-IsLeft t c = IsBlank c ⊎ ((m : Manifest) × (parts : List (List Born)) × IsStore t c m parts)
+IsLeft t c = IsBlank c ⊎ HoldsStore t c

@@ -1,4 +1,5 @@
 pub mod Imported
+pub mod Kept
 pub mod Left
 pub mod Listed
 pub mod Steps

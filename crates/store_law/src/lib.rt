@@ -1,12 +1,13 @@
 //! What the contents of a disk list, when they list exactly the closure of two texts, and what stopped runs may leave.
 #![tactic(auto)]
 
-ghost use Rattle.std.specs.Prelude.{◌≡◌, ◌≢◌, ◌≤◌, ◌↔◌, ◌∷◌, [], List, ℕ, Ok, None, codes};
+ghost use Rattle.std.specs.Prelude.{◌≡◌, ◌≢◌, ◌≤◌, ◌↔◌, ◌∷◌, [], List, ℕ, Ok, None, Contains, codes};
 ghost use Rattle.edge_text.specs.EdgesText.{edges_fault};
 ghost use Rattle.graph_words.specs.declared.types.Born.{Born as ABorn};
 ghost use Rattle.closing_machine.specs.State.{EndsCut};
-ghost use Rattle.closing_machine.specs.Parts.{ArePartitions};
+ghost use Rattle.closing_machine.specs.Parts.{ArePartitions, all_edges};
 ghost use Rattle.disk_model.specs.Disk.{Contents};
+ghost use Rattle.disk_model.specs.View.{LeavesBy, OnlyLooks};
 ghost use Rattle.manifest_codec.specs.declared.types.Manifest.{Manifest as AManifest};
 ghost use Rattle.manifest_codec.specs.Spelling.{FitsManifest};
 ghost use Rattle.manifest_switch.specs.declared.slot.Slot.{Slot as ASlot};
@@ -17,9 +18,12 @@ ghost use Rattle.manifest_switch.specs.Steps.{IsMade, Keeps, Stays, Switches};
 ghost use Rattle.store_law.specs.Texts.{AreGoodInTurn, Texts, joined_text};
 ghost use Rattle.store_law.specs.Listed.{AreExact, AreListed, ends_of};
 ghost use Rattle.store_law.specs.Left.{HasNoWork, IsLeft, IsOfTexts, IsStore, IsStoreOf};
+ghost use Rattle.store_law.specs.Kept.{KeepsAmong, KeepsStores};
 ghost use Rattle.store_law.specs.Imported.{IsFreshStore, IsImported};
 ghost use Rattle.disk_model.specs.OneFile.{OnlyFile};
 ghost use Rattle.store_law.specs.Steps.{IsFree, KeepsCopies, KeepsFiles};
+
+use disk_model::Disk;
 
 /// The partitions that a manifest lists are partitions of its intervals, which cut the vertices.
 pub fn listed_are_partitions()
@@ -113,4 +117,15 @@ pub fn other_files_may_change()
     ensures left { (t : Texts) (d c : Contents) (f : ℕ) → 2 ≤ f
         → ((s : ASlot) (m : AManifest) → current_of d ≡ Ok (At s m) → IsFree m f) → OnlyFile f d c → IsLeft t d
         → IsLeft t c }
+{}
+
+/// Calls that only look keep stores, and so do those that leave what is current with all files but the slots, a switch
+/// to a manifest that is a store of the same texts, and calls one after the other.
+pub fn calls_keep_stores<D: Disk>()
+    ensures looks { (old new : D) → OnlyLooks D.Disk old new → KeepsStores D.Disk old new }
+    ensures stays { (old new : D) → LeavesBy D.Disk old new Stays → KeepsStores D.Disk old new }
+    ensures switch { (old new : D) (t : Texts) (m : AManifest) (parts : List (List ABorn))
+        → IsStoreOf t (D.seen old) m parts → LeavesBy D.Disk old new (Switches (D.seen old) m)
+        → KeepsAmong D.Disk old new t (Contains (all_edges parts)) }
+    ensures and_then { (old mid new : D) → KeepsStores D.Disk old mid → KeepsStores D.Disk mid new → KeepsStores D.Disk old new }
 {}

@@ -2,6 +2,7 @@ use Rattle.std.proofs.Common.{◌≤◌, arith, refl}
 use Rattle.closer.proofs.Closings.{blamed_pick, clean, goes_on, labels_begin, picked, same_size, stepped}
 use Rattle.open_store.proofs.Causes.{handed}
 use Rattle.closer.proofs.Ending.{outcome}
+use Rattle.closer.proofs.Keeping.{keeps_moving}
 use Rattle.closer.proofs.Images.{held_then, lefts_held, nothing, step_before, step_then}
 use Rattle.closer.proofs.one_step.step.Goals as goal
 
@@ -98,3 +99,23 @@ returns-in_err-after-clause-cause g c =
 
 pub returns-in_default-clause-finished : goal.returns-in_default-clause-finished
 returns-in_default-clause-finished g c = (refl, clean c.manifest-manifest.result.now c.args.store.manifest c.manifest-manifest.ensures.manifest c.manifest-manifest.ensures.store.fits c.in_default.ensures.none, refl)
+
+pub returns-clause-stores : goal.returns-clause-stores
+returns-clause-stores g c =
+    let L = g.met.D.Disk in
+    keeps_moving g.D.Disk L.counts_now L.only_now L.honest L.told c.args.store c.args.disk.now c.commit.new.disk c.requires.held (returns-clause-any_moment g c)
+
+pub returns-in_err-after-clause-stores : goal.returns-in_err-after-clause-stores
+returns-in_err-after-clause-stores g c =
+    let L = g.met.D.Disk in
+    keeps_moving g.D.Disk L.counts_now L.only_now L.honest L.told c.args.store c.args.disk.now c.commit.new.disk c.requires.held (returns-in_err-after-clause-any_moment g c)
+
+pub returns-in_err-next-clause-stores : goal.returns-in_err-next-clause-stores
+returns-in_err-next-clause-stores g c =
+    let L = g.met.D.Disk in
+    keeps_moving g.D.Disk L.counts_now L.only_now L.honest L.told c.args.store c.args.disk.now c.close_pair.new.disk c.requires.held (returns-in_err-next-clause-any_moment g c)
+
+pub returns-in_default-clause-stores : goal.returns-in_default-clause-stores
+returns-in_default-clause-stores g c =
+    let L = g.met.D.Disk in
+    keeps_moving g.D.Disk L.counts_now L.only_now L.honest L.told c.args.store c.args.disk.now c.args.disk.now c.requires.held (returns-in_default-clause-any_moment g c)

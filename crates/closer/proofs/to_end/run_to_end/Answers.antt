@@ -1,11 +1,14 @@
-use Rattle.std.proofs.Common.{◌≡◌, ◌∙◌, refl, subst, arith, inl}
+use Rattle.std.proofs.Common.{◌≡◌, ◌∙◌, refl, sym, subst, arith, inl}
 use Rattle.normal_law.specs.NormalForm.{normal_form}
+use Rattle.store_law.specs.Kept.{KeepsStores}
 use Rattle.store_law.specs.Left.{HasNoWork}
 use Rattle.open_store.proofs.Causes.{handed}
 use Rattle.closer.specs.declared.one_step.Stepped.{Stepped}
 use Rattle.closer.specs.Answers.{IfAgain, IfFinished, IsStepped}
+use Rattle.closer.proofs.Blaming.{on_the_way}
 use Rattle.closer.proofs.Closings.{closed_here, no_step_there, one_more}
 use Rattle.closer.proofs.Images.{next_behind, nothing, step_before, steps_then}
+use Rattle.closer.proofs.Keeping.{ends_exact, keeps_moving}
 use Rattle.closer.proofs.LawLemmas.{continues_here}
 use Rattle.closer.proofs.to_end.run_to_end.Goals as goal
 
@@ -68,7 +71,7 @@ returns-in_err-next-clause-cause g c =
     let D = g.D.Disk in
     let inv = c.loop-next.invariant in
     handed (D.faults c.args.disk.now) (D.faults c.loop-next.disk) (D.faults c.step.new.disk) _ _ c.step.result c.from_residual.result c.in_err-next.field-0.0 c.in_err-next.was c.from_residual.ensures.1 inv.later
-    (λ f p k b. record { store = c.loop-next.current; seen = D.seen c.loop-next.disk; rules_are = inv.rules; reached = inv.on; blames = b }) c.step.ensures.cause
+    (λ f p k b. on_the_way c.args.store c.loop-next.current D.tells (D.seen c.args.disk.now) (D.seen c.loop-next.disk) f p k inv.rules inv.on b) c.step.ensures.cause
 
 pub returns-in-Finished-clause-closed : goal.returns-in-Finished-clause-closed
 returns-in-Finished-clause-closed g c =
@@ -77,3 +80,22 @@ returns-in-Finished-clause-closed g c =
     let inv = c.loop-next.invariant in
     let f = subst (λ (x : Stepped). IfFinished x (λ o. (o ≡ t) × HasNoWork t.manifest × (c.step.new.disk ≡ c.loop-next.disk))) c.in-Finished.is c.in_ok-next.ensures.finished in
     closed_here D.seen D.may_leave D.tells c.args.store t c.in-Finished.last c.args.disk.now c.loop-next.disk c.step.new.disk f.0 f.1 f.2 inv.rules inv.on inv.held inv.synced
+
+pub returns-in_err-next-clause-stores : goal.returns-in_err-next-clause-stores
+returns-in_err-next-clause-stores g c =
+    let L = g.met.D.Disk in
+    keeps_moving g.D.Disk L.counts_now L.only_now L.honest L.told c.args.store c.args.disk.now c.step.new.disk c.requires.held (returns-in_err-next-clause-any_moment g c)
+
+pub returns-in-Finished-clause-stores : goal.returns-in-Finished-clause-stores
+returns-in-Finished-clause-stores g c =
+    let D = g.D.Disk in
+    let L = g.met.D.Disk in
+    let f = subst (λ (x : Stepped). IfFinished x (λ o. (o ≡ c.loop-next.current) × HasNoWork c.loop-next.current.manifest × (c.step.new.disk ≡ c.loop-next.disk))) c.in-Finished.is c.in_ok-next.ensures.finished in
+    subst (λ x. KeepsStores D c.args.disk.now x) (sym f.2)
+    (keeps_moving D L.counts_now L.only_now L.honest L.told c.args.store c.args.disk.now c.loop-next.disk c.requires.held c.loop-next.invariant.any_moment)
+
+pub returns-in-Finished-clause-exact : goal.returns-in-Finished-clause-exact
+returns-in-Finished-clause-exact g c = λ t.
+    let L = g.met.D.Disk in
+    let closed = returns-in-Finished-clause-closed g c in
+    ends_exact g.D.Disk L.counts_now L.only_now L.honest L.told c.in-Finished.last c.args.disk.now c.step.new.disk t (returns-in-Finished-clause-stores g c) closed.done closed.held

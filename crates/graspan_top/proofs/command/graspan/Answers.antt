@@ -13,6 +13,8 @@ use Rattle.graspan_top.specs.Refusals.{Explained, rises_of}
 use Rattle.graspan_top.proofs.StageLemmas.{Grow, explained_more}
 use Rattle.graspan_top.proofs.CommandLemmas.{nothing_begun_of, said_more, words_back, words_explain, words_not_done, words_or_memory, explains_no_words}
 use Rattle.graspan_top.proofs.ExplainLemmas.{rose_later}
+use Rattle.graspan_top.proofs.StopLemmas.{spared_nowhere, work_nowhere}
+use Rattle.graspan_top.specs.Stops.{Spares}
 use Rattle.graspan_top.proofs.PrintLemmas.{begins, ends_later, nothing_first, prints}
 use Rattle.graspan_top.proofs.command.graspan.Goals as goal
 
@@ -117,3 +119,24 @@ pub returns-in-Ok-clause-stops : goal.returns-in-Ok-clause-stops
 returns-in-Ok-clause-stops g c = λ edges grammar options show reading.
     let same : said c.in-Ok.command ≡ run edges grammar options show = one_reading c.args.words.now (said c.in-Ok.command) (run edges grammar options show) c.in-Ok.ensures.reading reading in
     c.carry_out-ended.ensures.stops edges grammar options show same
+
+pub returns-in-Ok-clause-spares : goal.returns-in-Ok-clause-spares
+returns-in-Ok-clause-spares g c = λ edges grammar options show reading.
+    let D = g.D.Disk in
+    let x : Given = record { told = g.I.Inputs.told c.args.inputs.now; tells = D.tells; before = D.seen c.args.disk.now } in
+    let same : said c.in-Ok.command ≡ run edges grammar options show = one_reading c.args.words.now (said c.in-Ok.command) (run edges grammar options show) c.in-Ok.ensures.reading reading in
+    subst (λ (s : Status). Spares D x edges grammar s c.args.disk.now c.carry_out-ended.new.disk) (sym c.end.ensures.status)
+    (c.carry_out-ended.ensures.spares edges grammar options show same)
+
+pub returns-in-Err-clause-stops : goal.returns-in-Err-clause-stops
+returns-in-Err-clause-stops g c = λ edges grammar options show reading.
+    let L = g.met.D.Disk in
+    work_nowhere g.D.Disk L.counts_now L.only_now L.honest L.told (g.I.Inputs.told c.args.inputs.now) edges grammar c.args.disk.now
+
+pub returns-in-Err-clause-spares : goal.returns-in-Err-clause-spares
+returns-in-Err-clause-spares g c = λ edges grammar options show reading.
+    let L = g.met.D.Disk in
+    record {
+      refused = λ some why. spared_nowhere g.D.Disk L.counts_now L.only_now L.honest L.told (g.I.Inputs.told c.args.inputs.now) edges grammar c.args.disk.now;
+      faulty = λ text told bad. refl;
+    }

@@ -1,4 +1,4 @@
-use Rattle.std.proofs.Common.{◌≡◌, ℕ, ◌≤◌, List, refl, sym, ap, subst, ◌∙◌, arith}
+use Rattle.std.proofs.Common.{◌≡◌, ℕ, ◌≤◌, List, refl, sym, ap, subst, ◌∙◌, arith, inl}
 use Rattle.std.specs.Prelude.{IsTrue, IfErr}
 use Rattle.faults.specs.Counts.{Rose}
 use Rattle.disk_model.specs.Disk.{Contents}
@@ -10,8 +10,10 @@ use Rattle.graspan_top.specs.Given.{Given}
 use Rattle.open_store.specs.declared.opened.Opened.{Opened as OpenedT}
 use Rattle.graspan_top.specs.Refusals.{rises_in}
 use Rattle.graspan_top.proofs.ExplainLemmas.{by_reason, compare_refused, if_err, import_refused, open_refused, rose_later}
+use Rattle.manifest_switch.specs.Steps.{Stays}
+use Rattle.graspan_top.proofs.MadeLemmas.{begun_new}
 use Rattle.graspan_top.proofs.ReadyLemmas.{found_ready, import_ready_ok}
-use Rattle.graspan_top.proofs.StopLemmas.{stops_importing, stops_looking, stops_opening}
+use Rattle.graspan_top.proofs.StopLemmas.{spared_importing, spared_looking, work_importing, work_looking, work_with}
 use Rattle.graspan_top.proofs.ready_store.found_or_made.Goals as goal
 
 pub returns-in_err-open-clause-refused : goal.returns-in_err-open-clause-refused
@@ -70,29 +72,71 @@ pub returns-in_err-open-clause-stops : goal.returns-in_err-open-clause-stops
 returns-in_err-open-clause-stops g c =
     let D = g.D.Disk in
     let L = g.met.D.Disk in
-    stops_opening D.seen D.may_leave D.moment D.left_since L.counts_now L.only_now (g.I.Inputs.told c.args.inputs.now) c.args.files.now.edges.now c.args.files.now.grammar.now c.args.disk.now c.open.new.disk c.open.ensures.any_moment
+    work_with D L.counts_now L.only_now L.honest L.told (g.I.Inputs.told c.args.inputs.now) c.args.files.now.edges.now c.args.files.now.grammar.now c.args.disk.now c.open.new.disk c.open.ensures.stores
 
 pub returns-in_err-compare-in-Found-clause-stops : goal.returns-in_err-compare-in-Found-clause-stops
 returns-in_err-compare-in-Found-clause-stops g c =
     let D = g.D.Disk in
     let L = g.met.D.Disk in
-    stops_looking D.seen D.may_leave D.moment D.left_since L.counts_now L.only_now (g.I.Inputs.told c.args.inputs.now) c.args.files.now.edges.now c.args.files.now.grammar.now c.args.disk.now c.open.new.disk c.compare.new.disk
-    (stops_opening D.seen D.may_leave D.moment D.left_since L.counts_now L.only_now (g.I.Inputs.told c.args.inputs.now) c.args.files.now.edges.now c.args.files.now.grammar.now c.args.disk.now c.open.new.disk c.open.ensures.any_moment)
-    c.compare.ensures.looks.time c.compare.ensures.looks.no_more
+    let told = g.I.Inputs.told c.args.inputs.now in
+    let edges = c.args.files.now.edges.now in
+    let grammar = c.args.files.now.grammar.now in
+    work_looking D L.counts_now L.only_now L.honest L.told told edges grammar c.args.disk.now c.open.new.disk c.compare.new.disk
+    (work_with D L.counts_now L.only_now L.honest L.told told edges grammar c.args.disk.now c.open.new.disk c.open.ensures.stores)
+    c.compare.ensures.looks
 
 pub returns-in_ok-compare-in-Found-clause-stops : goal.returns-in_ok-compare-in-Found-clause-stops
 returns-in_ok-compare-in-Found-clause-stops g c =
     let D = g.D.Disk in
     let L = g.met.D.Disk in
-    stops_looking D.seen D.may_leave D.moment D.left_since L.counts_now L.only_now (g.I.Inputs.told c.args.inputs.now) c.args.files.now.edges.now c.args.files.now.grammar.now c.args.disk.now c.open.new.disk c.compare.new.disk
-    (stops_opening D.seen D.may_leave D.moment D.left_since L.counts_now L.only_now (g.I.Inputs.told c.args.inputs.now) c.args.files.now.edges.now c.args.files.now.grammar.now c.args.disk.now c.open.new.disk c.open.ensures.any_moment)
-    c.compare.ensures.looks.time c.compare.ensures.looks.no_more
+    let told = g.I.Inputs.told c.args.inputs.now in
+    let edges = c.args.files.now.edges.now in
+    let grammar = c.args.files.now.grammar.now in
+    work_looking D L.counts_now L.only_now L.honest L.told told edges grammar c.args.disk.now c.open.new.disk c.compare.new.disk
+    (work_with D L.counts_now L.only_now L.honest L.told told edges grammar c.args.disk.now c.open.new.disk c.open.ensures.stores)
+    c.compare.ensures.looks
 
 pub returns-in-Blank-clause-stops : goal.returns-in-Blank-clause-stops
 returns-in-Blank-clause-stops g c =
     let D = g.D.Disk in
     let L = g.met.D.Disk in
-    stops_importing D.seen D.may_leave D.moment D.left_since L.counts_now L.only_now (g.I.Inputs.told c.args.inputs.now) c.args.files.now.edges.now c.args.files.now.grammar.now c.args.disk.now c.open.new.disk c.import.new.disk c.args.grammar.now c.args.limit c.requires
-    (stops_opening D.seen D.may_leave D.moment D.left_since L.counts_now L.only_now (g.I.Inputs.told c.args.inputs.now) c.args.files.now.edges.now c.args.files.now.grammar.now c.args.disk.now c.open.new.disk c.open.ensures.any_moment)
+    work_importing D L.counts_now L.only_now L.honest L.told (g.I.Inputs.told c.args.inputs.now) c.args.files.now.edges.now c.args.files.now.grammar.now c.args.disk.now c.open.new.disk c.import.new.disk c.args.grammar.now c.args.limit c.requires
+    c.open.ensures.stores c.in_ok-open.ensures.stays
+    (λ tells. subst (IsOpened (D.seen c.open.new.disk)) c.in-Blank.is (c.in_ok-open.ensures.opened tells))
     (λ image now. subst (IsOpenedAlone image) c.in-Blank.is (c.in_ok-open.ensures.alone refl image now))
     c.import.ensures.any_moment
+
+pub returns-in_err-open-clause-spares : goal.returns-in_err-open-clause-spares
+returns-in_err-open-clause-spares g c = λ some. c.open.ensures.any_moment
+
+pub returns-in_err-compare-in-Found-clause-spares : goal.returns-in_err-compare-in-Found-clause-spares
+returns-in_err-compare-in-Found-clause-spares g c = λ some.
+    let D = g.D.Disk in
+    let L = g.met.D.Disk in
+    spared_looking D L.counts_now L.only_now L.honest L.told (g.I.Inputs.told c.args.inputs.now) c.args.files.now.edges.now c.args.files.now.grammar.now c.args.disk.now c.open.new.disk c.compare.new.disk c.open.ensures.any_moment c.compare.ensures.looks
+
+pub returns-in_ok-compare-in-Found-clause-spares : goal.returns-in_ok-compare-in-Found-clause-spares
+returns-in_ok-compare-in-Found-clause-spares g c = λ some.
+    let D = g.D.Disk in
+    let L = g.met.D.Disk in
+    spared_looking D L.counts_now L.only_now L.honest L.told (g.I.Inputs.told c.args.inputs.now) c.args.files.now.edges.now c.args.files.now.grammar.now c.args.disk.now c.open.new.disk c.compare.new.disk c.open.ensures.any_moment c.compare.ensures.looks
+
+pub returns-in-Blank-clause-spares : goal.returns-in-Blank-clause-spares
+returns-in-Blank-clause-spares g c = λ some.
+    let D = g.D.Disk in
+    let L = g.met.D.Disk in
+    spared_importing D L.counts_now L.only_now L.honest L.told (g.I.Inputs.told c.args.inputs.now) c.args.files.now.edges.now c.args.files.now.grammar.now c.args.disk.now c.open.new.disk c.import.new.disk c.args.grammar.now c.args.limit
+    c.open.ensures.any_moment c.in_ok-open.ensures.stays
+    (λ tells. subst (IsOpened (D.seen c.open.new.disk)) c.in-Blank.is (c.in_ok-open.ensures.opened tells))
+    c.import.ensures.any_moment some
+
+pub returns-in_ok-compare-in-Found-clause-begins : goal.returns-in_ok-compare-in-Found-clause-begins
+returns-in_ok-compare-in-Found-clause-begins g c = λ tells.
+    let D = g.D.Disk in
+    inl (subst (λ (k : Contents). Stays (D.seen c.args.disk.now) k) (sym c.compare.ensures.looks.same_seen) (c.in_ok-open.ensures.stays tells))
+
+pub returns-in-Blank-clause-begins : goal.returns-in-Blank-clause-begins
+returns-in-Blank-clause-begins g c =
+    let D = g.D.Disk in
+    let x : Given = record { told = g.I.Inputs.told c.args.inputs.now; tells = D.tells; before = D.seen c.args.disk.now } in
+    begun_new x c.args.grammar.now (g.I.Inputs.told c.args.inputs.now c.args.files.now.edges.now) c.args.limit (D.seen c.import.new.disk) c.import.result c.import.ensures.imported

@@ -4,9 +4,11 @@ use Rattle.store_fault.specs.Faults.{why_of}
 use Rattle.graspan_top.specs.Faults.{of_store}
 use Rattle.graspan_top.specs.Given.{Given}
 use Rattle.graspan_top.specs.Refusals.{rises_in}
-use Rattle.graspan_top.specs.Run.{StopsLeave, ready_stages}
+use Rattle.graspan_top.specs.Run.{ready_stages}
+use Rattle.graspan_top.specs.Stops.{KeepsWork}
 use Rattle.graspan_top.proofs.ExplainLemmas.{grammar_refused, if_err, rose_later, told_later}
 use Rattle.graspan_top.proofs.StageLemmas.{Grow, store_refuses}
+use Rattle.graspan_top.proofs.StopLemmas.{good_told, spared_nowhere, work_nowhere}
 use Rattle.graspan_top.proofs.ready_store.ready_store.Goals as goal
 
 pub returns-in_err-grammar-clause-refused : goal.returns-in_err-grammar-clause-refused
@@ -44,10 +46,31 @@ returns-in_err-found_or_made-clause-refused g c =
 pub returns-clause-stops : goal.returns-clause-stops
 returns-clause-stops g c =
     let D = g.D.Disk in
-    subst (λ (told : List ℕ → Option (List ℕ)). StopsLeave D.may_leave D.moment D.left_since told c.args.files.now.edges.now c.args.files.now.grammar.now c.args.disk.now c.found_or_made.new.disk) c.read_grammar_file.ensures.keeps.kept c.found_or_made.ensures.stops
+    subst (λ (told : List ℕ → Option (List ℕ)). KeepsWork D told c.args.files.now.edges.now c.args.files.now.grammar.now c.args.disk.now c.found_or_made.new.disk) c.read_grammar_file.ensures.keeps.kept c.found_or_made.ensures.stops
 
 pub returns-in_err-found_or_made-clause-keeps : goal.returns-in_err-found_or_made-clause-keeps
 returns-in_err-found_or_made-clause-keeps g c = keeps_then c.read_grammar_file.ensures.keeps c.found_or_made.ensures.keeps
 
 pub returns-clause-keeps : goal.returns-clause-keeps
 returns-clause-keeps g c = keeps_then c.read_grammar_file.ensures.keeps c.found_or_made.ensures.keeps
+
+pub returns-in_err-found_or_made-clause-stops : goal.returns-in_err-found_or_made-clause-stops
+returns-in_err-found_or_made-clause-stops g c =
+    let D = g.D.Disk in
+    subst (λ (told : List ℕ → Option (List ℕ)). KeepsWork D told c.args.files.now.edges.now c.args.files.now.grammar.now c.args.disk.now c.found_or_made.new.disk) c.read_grammar_file.ensures.keeps.kept c.found_or_made.ensures.stops
+
+pub returns-in_err-grammar-clause-stops : goal.returns-in_err-grammar-clause-stops
+returns-in_err-grammar-clause-stops g c =
+    let L = g.met.D.Disk in
+    work_nowhere g.D.Disk L.counts_now L.only_now L.honest L.told (g.I.Inputs.told c.args.inputs.now) c.args.files.now.edges.now c.args.files.now.grammar.now c.args.disk.now
+
+pub returns-in_err-grammar-clause-spares : goal.returns-in_err-grammar-clause-spares
+returns-in_err-grammar-clause-spares g c = λ some.
+    let L = g.met.D.Disk in
+    spared_nowhere g.D.Disk L.counts_now L.only_now L.honest L.told (g.I.Inputs.told c.args.inputs.now) c.args.files.now.edges.now c.args.files.now.grammar.now c.args.disk.now
+
+pub returns-clause-faulty : goal.returns-clause-faulty
+returns-clause-faulty g c = λ text told bad. absurd (good_told (g.I.Inputs.told c.args.inputs.now c.args.files.now.grammar.now) c.in_ok-grammar.grammar.items text c.in_ok-grammar.ensures.read told bad)
+
+pub returns-in_err-found_or_made-clause-faulty : goal.returns-in_err-found_or_made-clause-faulty
+returns-in_err-found_or_made-clause-faulty g c = λ text told bad. absurd (good_told (g.I.Inputs.told c.args.inputs.now c.args.files.now.grammar.now) c.in_ok-grammar.grammar.items text c.in_ok-grammar.ensures.read told bad)

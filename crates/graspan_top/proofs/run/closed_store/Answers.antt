@@ -8,7 +8,10 @@ use Rattle.graspan_top.specs.Run.{closed_stages}
 use Rattle.graspan_top.proofs.StageLemmas.{store_refuses}
 use Rattle.graspan_top.proofs.ExplainLemmas.{close_refused, if_err, ready_refused, rose_later}
 use Rattle.graspan_top.proofs.ReadyLemmas.{closed_ready}
-use Rattle.graspan_top.proofs.StopLemmas.{stops_closing}
+use Rattle.graspan_top.proofs.StopLemmas.{disk_refuses_none, spares_accepted, work_closing}
+use Rattle.graspan_top.proofs.LookLemmas.{status_at}
+use Rattle.graspan_top.specs.Stops.{Spares}
+use Rattle.graspan_top.specs.declared.status.Status.TheVariants.{Done}
 use Rattle.graspan_top.proofs.run.closed_store.Goals as goal
 
 pub returns-in_err-store-clause-refused : goal.returns-in_err-store-clause-refused
@@ -47,14 +50,31 @@ pub returns-in_err-run_to_end-clause-stops : goal.returns-in_err-run_to_end-clau
 returns-in_err-run_to_end-clause-stops g c =
     let D = g.D.Disk in
     let L = g.met.D.Disk in
-    stops_closing D.seen D.may_leave D.moment D.left_since L.counts_now L.only_now (g.I.Inputs.told c.args.inputs.now) c.args.files.now.edges.now c.args.files.now.grammar.now c.args.disk.now c.ready_store.new.disk c.run_to_end.new.disk c.in_ok-store.store c.ready_store.ensures.stops c.in_ok-store.ensures.ready.held
-    (λ image there. L.honest c.ready_store.new.disk (L.told c.ready_store.new.disk image there))
-    c.run_to_end.ensures.any_moment
+    work_closing D L.counts_now L.only_now L.honest L.told (g.I.Inputs.told c.args.inputs.now) c.args.files.now.edges.now c.args.files.now.grammar.now c.args.disk.now c.ready_store.new.disk c.run_to_end.new.disk c.in_ok-store.store c.ready_store.ensures.stops c.in_ok-store.ensures.ready.held
+    c.run_to_end.ensures.any_moment c.run_to_end.ensures.stores
 
 pub returns-clause-stops : goal.returns-clause-stops
 returns-clause-stops g c =
     let D = g.D.Disk in
     let L = g.met.D.Disk in
-    stops_closing D.seen D.may_leave D.moment D.left_since L.counts_now L.only_now (g.I.Inputs.told c.args.inputs.now) c.args.files.now.edges.now c.args.files.now.grammar.now c.args.disk.now c.ready_store.new.disk c.run_to_end.new.disk c.in_ok-store.store c.ready_store.ensures.stops c.in_ok-store.ensures.ready.held
-    (λ image there. L.honest c.ready_store.new.disk (L.told c.ready_store.new.disk image there))
-    c.run_to_end.ensures.any_moment
+    work_closing D L.counts_now L.only_now L.honest L.told (g.I.Inputs.told c.args.inputs.now) c.args.files.now.edges.now c.args.files.now.grammar.now c.args.disk.now c.ready_store.new.disk c.run_to_end.new.disk c.in_ok-store.store c.ready_store.ensures.stops c.in_ok-store.ensures.ready.held
+    c.run_to_end.ensures.any_moment c.run_to_end.ensures.stores
+
+pub returns-in_err-store-clause-spares : goal.returns-in_err-store-clause-spares
+returns-in_err-store-clause-spares g c = record { refused = λ some why. c.ready_store.ensures.spares some; faulty = c.ready_store.ensures.faulty }
+
+pub returns-in_err-run_to_end-clause-spares : goal.returns-in_err-run_to_end-clause-spares
+returns-in_err-run_to_end-clause-spares g c =
+    let D = g.D.Disk in
+    let x : Given = record { told = g.I.Inputs.told c.args.inputs.now; tells = D.tells; before = D.seen c.args.disk.now } in
+    let edges : List ℕ = c.args.files.now.edges.now in
+    let grammar : List ℕ = c.args.files.now.grammar.now in
+    let f = c.in_err-run_to_end.field-0.0 in
+    status_at (λ s. Spares D x edges grammar s c.args.disk.now c.run_to_end.new.disk) c.from_residual-in_err-run_to_end.result (of_store f) c.from_residual-in_err-run_to_end.ensures.1
+    (spares_accepted D x edges grammar (of_store f) c.args.disk.now c.run_to_end.new.disk c.in_ok-store.ensures.ready.accepts (disk_refuses_none _ _ f c.in_err-run_to_end.ensures.cause))
+
+pub returns-clause-spares : goal.returns-clause-spares
+returns-clause-spares g c =
+    let D = g.D.Disk in
+    let x : Given = record { told = g.I.Inputs.told c.args.inputs.now; tells = D.tells; before = D.seen c.args.disk.now } in
+    spares_accepted D x c.args.files.now.edges.now c.args.files.now.grammar.now Done c.args.disk.now c.run_to_end.new.disk c.in_ok-store.ensures.ready.accepts (λ refuses. refuses)

@@ -1,5 +1,5 @@
 use Rattle.std.proofs.Common.{◌≡◌, ℕ, ◌≤◌, List, Option, sym, subst, arith}
-use Rattle.std.specs.Prelude.{IsTrue, option_map}
+use Rattle.std.specs.Prelude.{IsTrue, Result, option_map}
 use Rattle.faults.specs.Counts.{Rose}
 use Rattle.disk_model.specs.Disk.{Contents}
 use Rattle.store_law.specs.Listed.{AreExact}
@@ -15,7 +15,10 @@ use Rattle.graspan_top.proofs.StageLemmas.{Grow, refused_not_done}
 use Rattle.graspan_top.proofs.PrintLemmas.{nothing_first}
 use Rattle.graspan_top.proofs.ReadyLemmas.{exact_end}
 use Rattle.graspan_top.proofs.TextLemmas.{nothing_begun}
-use Rattle.graspan_top.proofs.StopLemmas.{stops_looking}
+use Rattle.graspan_top.proofs.StopLemmas.{show_refuses_none, spares_accepted, work_looking}
+use Rattle.graspan_top.specs.Stops.{Spares}
+use Rattle.graspan_top.specs.declared.status.Status.{Status}
+use Rattle.open_store.specs.Store.{OpenStore}
 use Rattle.graspan_top.proofs.run.run.Goals as goal
 
 pub returns-in_err-store-clause-explained : goal.returns-in_err-store-clause-explained
@@ -99,6 +102,22 @@ returns-clause-begun g c =
 
 pub returns-clause-stops : goal.returns-clause-stops
 returns-clause-stops g c =
-    let D = g.D.Disk in
     let L = g.met.D.Disk in
-    stops_looking D.seen D.may_leave D.moment D.left_since L.counts_now L.only_now (g.I.Inputs.told c.args.inputs.now) c.args.files.now.edges.now c.args.files.now.grammar.now c.args.disk.now c.closed_store.new.disk c.show_run.new.disk c.closed_store.ensures.stops c.show_run.ensures.looks.time c.show_run.ensures.looks.no_more
+    work_looking g.D.Disk L.counts_now L.only_now L.honest L.told (g.I.Inputs.told c.args.inputs.now) c.args.files.now.edges.now c.args.files.now.grammar.now c.args.disk.now c.closed_store.new.disk c.show_run.new.disk c.closed_store.ensures.stops c.show_run.ensures.looks
+
+pub returns-in_err-store-clause-spares : goal.returns-in_err-store-clause-spares
+returns-in_err-store-clause-spares g c =
+    let D = g.D.Disk in
+    let x : Given = record { told = g.I.Inputs.told c.args.inputs.now; tells = D.tells; before = D.seen c.args.disk.now } in
+    let now = c.closed_store.new.disk in
+    status_at (λ s. Spares D x c.args.files.now.edges.now c.args.files.now.grammar.now s c.args.disk.now now) c.from_residual.result c.in_err-store.field-0.0 c.from_residual.ensures.1
+    (subst (λ (r : Result OpenStore Status). Spares D x c.args.files.now.edges.now c.args.files.now.grammar.now (status_of r) c.args.disk.now now) c.in_err-store.was c.closed_store.ensures.spares)
+
+pub returns-clause-spares : goal.returns-clause-spares
+returns-clause-spares g c =
+    let D = g.D.Disk in
+    let x : Given = record { told = g.I.Inputs.told c.args.inputs.now; tells = D.tells; before = D.seen c.args.disk.now } in
+    let show : Option (List ℕ) = option_map (λ l. l.now) c.args.show in
+    let mid = c.closed_store.new.disk in
+    spares_accepted D x c.args.files.now.edges.now c.args.files.now.grammar.now (status_of c.show_run.result) c.args.disk.now c.show_run.new.disk c.in_ok-store.ensures.ready.accepts
+    (show_refuses_none c.in_ok-store.store D.tells (D.seen mid) show (Rose (D.faults mid) (D.faults c.show_run.new.disk)) (Rose (g.O.Sink.faults c.args.out.now) (g.O.Sink.faults c.show_run.new.out)) (status_of c.show_run.result) c.show_run.ensures.explained)

@@ -1,5 +1,6 @@
 use Rattle.std.specs.Prelude.{IsTrue}
-use Rattle.store.proofs.Switching.{blank_then, held_alone, import_of, imports_then, new_store}
+use Rattle.store.proofs.Stopping.{import_stops}
+use Rattle.store.proofs.Switching.{blank_then, held_alone, import_of, imports_before, imports_then, new_store}
 use Rattle.store.proofs.new_store.import.Goals as goal
 
 pub switch-requires-clause-blank : goal.switch-requires-clause-blank
@@ -45,3 +46,19 @@ returns-clause-any_moment g c =
     let L = g.met.D.Disk in
     imports_then D.seen D.moment D.left_since D.may_leave L.counts_now L.only_now c.args.disk.now c.prepare.new.disk c.switch.new.disk c.args.grammar.now (I.told c.args.inputs.now c.args.edges.now) c.args.limit (IsTrue D.tells) c.in_ok-prepared.prepared L.told c.in_ok-prepared.ensures.prepared c.prepare.ensures.any_moment
     c.switch.ensures.any_moment
+
+pub returns-in_err-slot-clause-stops : goal.returns-in_err-slot-clause-stops
+returns-in_err-slot-clause-stops g c = λ file told.
+    let L = g.met.D.Disk in
+    import_stops g.D.Disk L.counts_now L.only_now L.honest c.args.grammar.now file (g.I.Inputs.told c.args.inputs.now c.args.edges.now) c.args.limit c.args.disk.now c.switch.new.disk told (returns-in_err-slot-clause-any_moment g c)
+
+pub returns-clause-stops : goal.returns-clause-stops
+returns-clause-stops g c = λ file told.
+    let L = g.met.D.Disk in
+    import_stops g.D.Disk L.counts_now L.only_now L.honest c.args.grammar.now file (g.I.Inputs.told c.args.inputs.now c.args.edges.now) c.args.limit c.args.disk.now c.switch.new.disk told (returns-clause-any_moment g c)
+
+pub returns-in_err-prepared-clause-stops : goal.returns-in_err-prepared-clause-stops
+returns-in_err-prepared-clause-stops g c = λ file told.
+    let L = g.met.D.Disk in
+    import_stops g.D.Disk L.counts_now L.only_now L.honest c.args.grammar.now file (g.I.Inputs.told c.args.inputs.now c.args.edges.now) c.args.limit c.args.disk.now c.prepare.new.disk told
+    (imports_before g.D.Disk.seen g.D.Disk.moment g.D.Disk.left_since g.D.Disk.may_leave L.counts_now L.only_now c.args.disk.now c.prepare.new.disk c.args.grammar.now (g.I.Inputs.told c.args.inputs.now c.args.edges.now) c.args.limit c.prepare.ensures.any_moment)

@@ -1,5 +1,6 @@
 use Rattle.std.proofs.Common.{◌≡◌, ℕ, List, refl, sym, ap, subst, ◌∙◌, arith}
 use Rattle.disk_model.specs.Disk.{Contents}
+use Rattle.store_law.proofs.Moments.{keeps_here, keeps_switching}
 use Rattle.open_store.specs.Store.{OpenStore}
 use Rattle.open_store.specs.Copy.{IsCopyRead}
 use Rattle.open_store.proofs.Copies.{next_copy}
@@ -18,3 +19,18 @@ returns-clause-held g c = λ image now.
       grammar = next_copy c.args.self.manifest c.args.next (D.seen c.args.disk.now 2) (image 2) _ same c.requires.grammar c.requires.labels
           (subst (IsCopyRead c.args.self.manifest (D.seen c.args.disk.now 2)) (sym (ap (λ (x : OpenStore). x.rules) c.self.view_is)) old.grammar);
     }
+
+pub returns-in_err-intervals-clause-stores : goal.returns-in_err-intervals-clause-stores
+returns-in_err-intervals-clause-stores g c = λ t parts store.
+    let L = g.met.D.Disk in
+    keeps_here g.D.Disk L.counts_now L.only_now L.honest c.args.disk.now t _
+
+pub returns-in_err-slot-clause-stores : goal.returns-in_err-slot-clause-stores
+returns-in_err-slot-clause-stores g c = λ t parts store.
+    let L = g.met.D.Disk in
+    keeps_switching g.D.Disk L.counts_now L.only_now L.honest c.args.disk.now c.switch.new.disk t c.args.next parts store c.switch.ensures.any_moment
+
+pub returns-clause-stores : goal.returns-clause-stores
+returns-clause-stores g c = λ t parts store.
+    let L = g.met.D.Disk in
+    keeps_switching g.D.Disk L.counts_now L.only_now L.honest c.args.disk.now c.switch.new.disk t c.args.next parts store c.switch.ensures.any_moment
