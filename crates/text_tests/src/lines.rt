@@ -15,36 +15,45 @@ fn read(line: &[u8]) -> Result<Option<(u32, u32, &[u8])>, EdgeFault> {
 
 #[test]
 fn an_edge_line_is_read_or_refused_by_its_first_fault(rt: HostRuntime) {
-    for (line, edge) in [
+    let longest = [b'a'; 255];
+    for (line, said) in [
         (
             b"16777215 0 a".as_slice(),
-            Some((16_777_215, 0, b"a".as_slice())),
+            Ok(Some((16_777_215, 0, b"a".as_slice()))),
         ),
-        (b"\t007  1 a/ ", Some((7, 1, b"a/"))),
-        (b"# 0 1 a", None),
-        (b" ", None),
+        (b"\t007  1 a/ ", Ok(Some((7, 1, b"a/")))),
+        (b"# 0 1 a", Ok(None)),
+        (b" ", Ok(None)),
+        (b"16777216 0 a", Err(EdgeFault::BadSource)),
+        (b"0 x a", Err(EdgeFault::BadDestination)),
+        (b"x y", Err(EdgeFault::WrongCount)),
+        (b"x y a b", Err(EdgeFault::WrongCount)),
+        (b"0 1 \x7f", Err(EdgeFault::BadLabel)),
     ] {
-        assert!(rt; read(line).is_ok_and(|said| said == edge));
+        assert!(rt; read(line) == said);
     }
-    for (line, fault) in [
-        (b"16777216 0 a".as_slice(), EdgeFault::BadSource),
-        (b"0 x a", EdgeFault::BadDestination),
-        (b"x y", EdgeFault::WrongCount),
-        (b"x y a b", EdgeFault::WrongCount),
-        (b"0 1 \x7f", EdgeFault::BadLabel),
-    ] {
-        assert!(rt; read(line).is_err_and(|told| told == fault));
+    assert!(rt; is_label(&longest));
+    assert!(rt; !is_label(&[b'a'; 256]));
+}
+
+// Two pieces of a text.
+fn two_pieces(alloc: Global, front: &[u8], back: &[u8]) -> Result<Vec<Vec<u8>>, AllocError> {
+    let mut pieces = Vec::new(alloc);
+    for piece in [front, back] {
+        pieces.push(piece.to_vec(alloc)?)?;
     }
+    Ok(pieces)
+}
+
+fn are_lines(lines: &[Vec<u8>], wanted: &[&[u8]]) -> bool {
+    lines.len() == wanted.len() && lines.iter().zip(wanted).all(|(l, w)| l.as_slice() == *w)
 }
 
 #[test]
 fn a_line_end_may_be_cut_in_two(rt: HostRuntime) -> Result<(), Fail> {
-    let alloc = rt.alloc();
-    let pieces = vec![in alloc; b"ab\r".to_vec(alloc)?, b"\nc".to_vec(alloc)?]?;
-    let lines = lines_of_pieces(alloc, &pieces)?;
-    assert_eq!(rt; lines.len(), 2);
-    assert_eq!(rt; lines[0].as_slice(), b"ab".as_slice());
-    assert_eq!(rt; lines[1].as_slice(), b"c".as_slice());
+    let pieces = two_pieces(rt.alloc(), b"ab\r", b"\nc")?;
+    let lines = lines_of_pieces(rt.alloc(), &pieces)?;
+    assert!(rt; are_lines(&lines, &[b"ab", b"c"]));
     Ok(())
 }
 
@@ -52,52 +61,62 @@ fn one_file(alloc: Global, text: &[u8]) -> Result<MemInputs, AllocError> {
     Ok(MemInputs::new(vec![in alloc; named(alloc, "e", text)?]?))
 }
 
+// How many edges an edge file has, and its labels.
+fn edges_and_labels(alloc: Global, text: &[u8]) -> Result<(usize, LabelTable), EdgesFault> {
+    let mut table = LabelTable::new(alloc);
+    let mut inputs = one_file(alloc, text)?;
+    let edges = read_edges(alloc, &mut inputs, "e", &mut table)?;
+    Ok((edges.as_slice().len(), table.copy()?))
+}
+
+// Whether the labels are a and b.
+fn are_a_and_b(table: &LabelTable) -> bool {
+    table.len() == 2
+        && table.number_of(b"b").is_some_and(|l| l.0 == 1)
+        && table.number_of(b"c").is_none()
+        && table.name_of(LabelId(0)) == Some(b"a".as_slice())
+}
+
 // A carriage return, tabs, a remark, a blank line and a last line without its line feed.
 #[test]
 fn a_file_is_read_with_its_labels_numbered(rt: HostRuntime) -> Result<(), Fail> {
-    let alloc = rt.alloc();
-    let mut table = LabelTable::new(alloc);
-    let mut inputs = one_file(alloc, b"0 1 a\r\n0\t1  a\n# note\n\n 2 4 b")?;
-    let edges = read_edges(alloc, &mut inputs, "e", &mut table)?;
-    assert_eq!(rt; edges.as_slice().len(), 3);
-    let table = table.copy()?;
-    assert_eq!(rt; table.len(), 2);
-    assert!(rt; table.number_of(b"b").is_some_and(|l| l.0 == 1));
-    assert!(rt; table.number_of(b"c").is_none());
-    assert!(rt; table.name_of(LabelId(0)) == Some(b"a".as_slice()));
+    let (edges, table) = edges_and_labels(rt.alloc(), b"0 1 a\r\n0\t1  a\n# note\n\n 2 4 b")?;
+    assert_eq!(rt; edges, 3);
+    assert!(rt; are_a_and_b(&table));
     Ok(())
 }
 
 #[test]
-fn a_file_is_refused_by_the_first_line_with_a_fault(rt: HostRuntime) -> Result<(), Fail> {
-    let alloc = rt.alloc();
-    let mut inputs = one_file(alloc, b"0 1 a\n0 1\n")?;
-    let refused = read_edges(alloc, &mut inputs, "e", &mut LabelTable::new(alloc));
+fn a_file_is_refused_by_the_first_line_with_a_fault(rt: HostRuntime) {
+    let refused = edges_and_labels(rt.alloc(), b"0 1 a\n0 1\n");
     let wanted = EdgesFault::Text {
         line: 2,
         kind: InputKind::WrongCount,
     };
     assert!(rt; refused.is_err_and(|fault| fault == wanted));
-    Ok(())
+}
+
+// How many edges each of two pieces of a file gives, and how many labels both have.
+fn edges_of_pieces(
+    alloc: Global,
+    front: &[u8],
+    back: &[u8],
+) -> Result<(usize, usize, usize), EdgesFault> {
+    let mut reader = EdgeReader::new(alloc, LabelTable::new(alloc), 0)?;
+    let mut edges = Vec::new(alloc);
+    reader.feed(front, &mut edges)?;
+    let early = edges.len();
+    edges.clear();
+    reader.feed(back, &mut edges)?;
+    reader.finish(&mut edges)?;
+    Ok((early, edges.len(), reader.table().len()))
 }
 
 // A line is cut between two pieces, and the edges of the first piece are gone when the second comes.
 #[test]
-fn edges_may_be_taken_away_between_pieces(rt: HostRuntime) -> Result<(), Fail> {
-    let alloc = rt.alloc();
-    let mut reader = EdgeReader::new(alloc, LabelTable::new(alloc), 0)?;
-    let mut edges = Vec::new(alloc);
-    reader.feed(b"0 1 a\n1 ", &mut edges)?;
-    assert_eq!(rt; edges.len(), 1);
-    edges.clear();
-    reader.feed(b"2 b\n3 4 a", &mut edges)?;
-    assert_eq!(rt; edges.len(), 1);
-    reader.finish(&mut edges)?;
-    assert_eq!(rt; edges.len(), 2);
-    let last = edges[1];
-    assert!(rt; (last.src.0, last.label.0, last.dst.0) == (3, 0, 4));
-    assert_eq!(rt; reader.table().len(), 2);
-    Ok(())
+fn edges_may_be_taken_away_between_pieces(rt: HostRuntime) {
+    let counts = edges_of_pieces(rt.alloc(), b"0 1 a\n1 ", b"2 b\n3 4 a");
+    assert!(rt; counts == Ok((1, 2, 2)));
 }
 
 #[test]
