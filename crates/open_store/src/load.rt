@@ -1,5 +1,5 @@
 //! Partitions are loaded, or only counted.
-ghost use Rattle.std.specs.Prelude.{◌≡◌, ◌↔◌, ◌<◌, ◌+◌, ◌++◌, ◌^◌, [], ℕ, List, IsTrue, true, false, length, slice_index_or, Err, IfOk, OnOk};
+ghost use Rattle.std.specs.Prelude.{◌≡◌, ◌↔◌, ◌<◌, ◌≤◌, ◌+◌, ◌++◌, ◌^◌, [], ℕ, List, IsTrue, true, false, length, slice_index_or, Err, IfOk, OnOk};
 ghost use Rattle.faults.specs.Reasons.{HasReason, blames_none, disk_causes};
 ghost use Rattle.store_fault.specs.Faults.{why_of};
 ghost use Rattle.graph_words.specs.declared.types.Born.{Born as ABorn};
@@ -79,6 +79,19 @@ impl Store {
         })
     }
 
+    // Room for the edges of partition `i`: as many as the manifest tells of, and no more than the bytes
+    // of its file can hold.
+    fn room(&self, i: usize, most: usize) -> usize
+        requires { i < length self.now.manifest.parts }
+        ensures { result ≤ most }
+    {
+        let mut told = 0u64;
+        for j in 0..self.manifest.map.len() {
+            told = told.saturating_add(self.manifest.map.count(i, j));
+        }
+        most.min(told as usize)
+    }
+
     // The edges of partition `i`.
     fn edges<D: Disk>(&self, alloc: Global, disk: &mut D, i: usize) -> Result<Vec<Born>, StoreFault>
         requires { i < length self.now.manifest.parts }
@@ -89,7 +102,8 @@ impl Store {
             × (IsTrue D.tells → IsRefused self.now i (D.seen disk.old file) place kind))) result }
     {
         let mut stream = self.stream(alloc, disk, i)?;
-        let mut edges = Vec::with_capacity(alloc, stream.most_edges(&self.expect(i)))?;
+        let room = self.room(i, stream.most_edges(&self.expect(i)));
+        let mut edges = Vec::with_capacity(alloc, room)?;
         while stream.next(disk, &mut edges)? {}
         let mut tally = Tally::zero(alloc, &self.intervals)?;
         tally.add_all(&self.intervals, &edges);
