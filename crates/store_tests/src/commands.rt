@@ -155,11 +155,11 @@ fn a_damaged_store_is_blamed(rt: HostRuntime) -> Result<(), Fail> {
     let mut disk = MemDisk::new(alloc)?;
     let _ = path_says(alloc, &mut disk, &RUN)?;
     // One byte behind the partition's last.
-    let Ok(()) = disk.write_at(5, 78, b"\0") else {
+    let Ok(()) = disk.write_at(5, 24, b"\0") else {
         panic!(rt; "not written");
     };
     let (out, code) = path_says(alloc, &mut disk, &["query", "S", "0"])?;
-    assert_eq!(rt; out.bytes(), b"fault store 5 78 Extra\n".as_slice());
+    assert_eq!(rt; out.bytes(), b"fault store 5 24 Extra\n".as_slice());
     assert_eq!(rt; code, 8);
     // The current slot is cut, and the other one isn't taken in its stead.
     let Ok(()) = disk.cut(1, 75) else {

@@ -23,7 +23,15 @@ pub(crate) const SLOT: [u8; 76] = [
 ];
 
 /// Its partition: (0, S, 2) of birth 1, and (0, a, 1) and (1, b, 2) of birth 0.
-pub(crate) const PART: [u8; 78] = [
+pub(crate) const PART: [u8; 24] = [
+    0x47, 0x53, 0x50, 0x32, 0, 0, 0, 0, 3, 0, 0, 0, // the bounds
+    2, 0, 2, 1, 1, 1, 0, // the row of 0, with S and a
+    1, 2, 2, 0, // the row of 1, with b
+    0, // the row of 2
+];
+
+/// The same in format 1, as stores from before have it.
+pub(crate) const FIRST_PART: [u8; 78] = [
     0x47, 0x53, 0x50, 0x31, 0, 0, 0, 0, 3, 0, 0, 0, // the bounds
     2, 0, 0, 0, 0, 0, 0, 0, // the row of 0
     0, 0, 2, 0, 0, 0, 1, 0, 0, 0, 0, 0, 0, 0, // S
@@ -44,7 +52,15 @@ pub(crate) const FRESH_SLOT: [u8; 76] = [
 ];
 
 /// Its partition: (0, a, 1) and (1, b, 2) of birth 0.
-pub(crate) const FRESH_PART: [u8; 64] = [
+pub(crate) const FRESH_PART: [u8; 21] = [
+    0x47, 0x53, 0x50, 0x32, 0, 0, 0, 0, 3, 0, 0, 0, // the bounds
+    1, 1, 1, 0, // the row of 0, with a
+    1, 2, 2, 0, // the row of 1, with b
+    0, // the row of 2
+];
+
+/// The same in format 1.
+pub(crate) const FIRST_FRESH_PART: [u8; 64] = [
     0x47, 0x53, 0x50, 0x31, 0, 0, 0, 0, 3, 0, 0, 0, // the bounds
     1, 0, 0, 0, 0, 0, 0, 0, // the row of 0
     1, 0, 1, 0, 0, 0, 0, 0, 0, 0, 0, 0, 0, 0, // a

@@ -12,6 +12,8 @@ mod failures;
 #[cfg(test)]
 mod fixtures;
 #[cfg(test)]
+mod older;
+#[cfg(test)]
 mod slots;
 #[cfg(test)]
 mod stores;
