@@ -10,7 +10,7 @@ use Rattle.std.proofs.Math.Seq.{drop-cons}
 use Rattle.group_number.specs.declared.reading.GroupRead.{GroupRead}
 use Rattle.group_number.specs.declared.reading.GroupRead.TheVariants.{Short, Bad, Number}
 use Rattle.group_number.specs.Groups.{behind_group, groups_in, group_at}
-use Rattle.group_number.proofs.Steps.{at_end, at_last, at_large, at_many, at_more}
+use Rattle.group_number.proofs.Steps.{at_end, at_last, at_large, at_many, at_more, behind_some}
 
 -- ---- the first byte
 
@@ -28,6 +28,24 @@ first_behind [] some high = absurd (omega arith)
 first_behind (b ∷ bytes) some high =
     ap (λ (x : List ℕ). behind_group (b - 128) (groups_in 57 x)) (take_all (length (b ∷ bytes) - 1) bytes (omega arith))
     ∙ sym (at_more 64 b bytes high (omega arith))
+
+-- two bytes, and three
+pub two_are_all : (first : ℕ) (bytes : List ℕ) → 0 < length bytes → 0 < get_or bytes 0 0 → get_or bytes 0 0 < 128
+    → Number ((first - 128) + get_or bytes 0 0 * 128) 2 ≡ behind_group (first - 128) (groups_in 57 bytes)
+two_are_all first [] long some low = absurd (omega arith)
+two_are_all first (b ∷ bytes) long some low =
+    let sum : (first - 128) + b * 128 ≡ (first - 128) + 128 * b = omega arith in
+    ap (λ (n : ℕ). Number n 2) sum ∙ sym (ap (behind_group (first - 128)) (at_last 57 b bytes low (omega arith)) ∙ behind_some (first - 128) b 1 some)
+
+pub three_are_all : (first : ℕ) (bytes : List ℕ) → 2 ≤ length bytes → 128 ≤ get_or bytes 0 0 → 0 < get_or bytes 1 0 → get_or bytes 1 0 < 128
+    → Number ((first - 128) + ((get_or bytes 0 0 - 128) + get_or bytes 1 0 * 128) * 128) 3 ≡ behind_group (first - 128) (groups_in 57 bytes)
+three_are_all first [] long high some low = absurd (omega arith)
+three_are_all first (b ∷ []) long high some low = absurd (omega arith)
+three_are_all first (b ∷ d ∷ bytes) long high some low =
+    let sum : (first - 128) + ((b - 128) + d * 128) * 128 ≡ (first - 128) + 128 * ((b - 128) + 128 * d) = omega arith in
+    let behind : groups_in 57 (b ∷ d ∷ bytes) ≡ Number ((b - 128) + 128 * d) 2 =
+      at_more 57 b (d ∷ bytes) high (omega arith) ∙ ap (behind_group (b - 128)) (at_last 50 d bytes low (omega arith)) ∙ behind_some (b - 128) d 1 some in
+    ap (λ (n : ℕ). Number n 3) sum ∙ sym (ap (behind_group (first - 128)) behind ∙ behind_some (first - 128) ((b - 128) + 128 * d) 2 (omega (arith, some)))
 
 -- ---- the bytes behind it
 

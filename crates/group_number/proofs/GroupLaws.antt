@@ -192,6 +192,14 @@ length_groups (suc k) n =
           (omega arith, omega arith)
     ]
 
+pub group_bytes_two : (n : ℕ) → 128 ≤ n → n < 16384 → group_bytes n ≡ (128 + n % 128) ∷ (n / 128) ∷ []
+group_bytes_two n many few =
+    group_bytes_step n (omega (arith, few)) many ∙ ap (λ (x : List ℕ). (128 + n % 128) ∷ x) (group_bytes_low (n / 128) (omega (arith, few)))
+
+pub group_bytes_three : (n : ℕ) → 16384 ≤ n → n < 2097152 → group_bytes n ≡ (128 + n % 128) ∷ (128 + (n / 128) % 128) ∷ (n / 128 / 128) ∷ []
+group_bytes_three n many few =
+    group_bytes_step n (omega (arith, few)) (omega (arith, many)) ∙ ap (λ (x : List ℕ). (128 + n % 128) ∷ x) (group_bytes_two (n / 128) (omega (arith, many)) (omega (arith, few)))
+
 -- a number has 1 to 10 bytes
 pub length_bounds : (n : ℕ) → (0 < length (group_bytes n)) × (length (group_bytes n) ≤ 10)
 length_bounds n = length_groups 9 n

@@ -27,11 +27,37 @@ pub fn read_group(bytes: &[u8]) -> GroupRead
             len: 1,
         }
     } else {
-        read_behind(first, &bytes[1..])
+        read_more(first, &bytes[1..])
     }
 }
 
-/// A first group that has others behind it, and what is read of these.
+/// A first group that has others behind it, and what is read of these. Numbers of two and of three bytes
+/// are read at once.
+#[inline(always)]
+fn read_more(first: u8, bytes: &[u8]) -> GroupRead
+    requires { 128 ≤ first }
+    ensures { result ≡ behind_group (first - 128) (groups_in 57 bytes.now) }
+{
+    let low = (first - 128) as u64;
+    if bytes.len() < 2 || bytes[0] == 0 {
+        return read_behind(first, bytes);
+    }
+    if bytes[0] < 128 {
+        return GroupRead::Number {
+            number: low + bytes[0] as u64 * 128,
+            len: 2,
+        };
+    }
+    if bytes[1] == 0 || bytes[1] >= 128 {
+        return read_behind(first, bytes);
+    }
+    GroupRead::Number {
+        number: low + ((bytes[0] - 128) as u64 + bytes[1] as u64 * 128) * 128,
+        len: 3,
+    }
+}
+
+/// A first group, and what is read of any others behind it.
 #[inline(never)]
 fn read_behind(first: u8, bytes: &[u8]) -> GroupRead
     requires { 128 ≤ first }

@@ -9,13 +9,24 @@ use std::alloc::AllocError;
 ///
 /// `AllocError` where there is no memory for the bytes. Some of them may have been written then.
 #[inline(always)]
-#[tactic(auto, using(crate::proofs::GroupLaws::group_bytes_low))]
+#[tactic(auto, using(crate::proofs::GroupLaws::group_bytes_low, crate::proofs::GroupLaws::group_bytes_two, crate::proofs::GroupLaws::group_bytes_three))]
 pub fn put_group(out: &mut Vec<u8>, number: u64) -> Result<(), AllocError>
     ensures { OnOk result (out.new.items ≡ out.old.items ++ group_bytes number) }
 {
     if number < 128 {
         out.push(number as u8)?;
         return Ok(());
+    }
+    if number < 16_384 {
+        return out.extend_from_slice(&[128 + (number % 128) as u8, (number / 128) as u8]);
+    }
+    if number < 2_097_152 {
+        let rest = number / 128;
+        return out.extend_from_slice(&[
+            128 + (number % 128) as u8,
+            128 + (rest % 128) as u8,
+            (rest / 128) as u8,
+        ]);
     }
     put_groups(out, number)
 }
@@ -36,12 +47,16 @@ fn put_groups(out: &mut Vec<u8>, number: u64) -> Result<(), AllocError>
 
 /// How many bytes the number takes, from 1 to 10.
 #[inline(always)]
-#[tactic(auto, using(crate::proofs::GroupLaws::group_bytes_low))]
+#[tactic(auto, using(crate::proofs::GroupLaws::group_bytes_low, crate::proofs::GroupLaws::group_bytes_two, crate::proofs::GroupLaws::group_bytes_three))]
 pub fn group_len(number: u64) -> usize
     ensures { result ≡ length (group_bytes number) }
 {
     if number < 128 {
         1
+    } else if number < 16_384 {
+        2
+    } else if number < 2_097_152 {
+        3
     } else {
         count_groups(number)
     }

@@ -4,7 +4,7 @@ ghost use Rattle.std.specs.List.{flat_map};
 ghost use Rattle.partition_file.specs.Reader.{taken, ReadsPiece};
 ghost use Rattle.partition_file.specs.Spelling.{Part, FitsPart, SpellsPart, DecodesPart, AnswersPart};
 
-use crate::format::{HEAD_LEN, LEAST_EDGE_LEN};
+use crate::format::{COUNT_LEN, EDGE_LEN, FIRST_MAGIC, HEAD_LEN, LEAST_EDGE_LEN};
 use crate::partition::Partition;
 use crate::reader::RowReader;
 use crate::types::{Expect, PartError, PartFault, RowStep};
@@ -63,12 +63,39 @@ pub fn read_pieces(
     }
 }
 
-/// How many edges so many bytes of a partition file have at most, by their length alone.
+/// How many edges so many bytes of a partition file have at most, in either format, by their length
+/// alone.
 pub fn most_edges(len: usize, expect: &Expect) -> usize
     ensures { LEAST_EDGE_LEN * result ≤ len }
 {
     let rows = expect.hi.saturating_sub(expect.lo) as usize;
     len.saturating_sub(HEAD_LEN + rows) / LEAST_EDGE_LEN
+}
+
+/// How many of the bytes are the last of a group number.
+fn last_bytes(bytes: &[u8]) -> usize
+    ensures { result ≤ length bytes.now }
+{
+    let mut count = 0;
+    for byte in bytes {
+        count += usize::from(*byte < 128);
+    }
+    count
+}
+
+/// Room for the edges of a file: exactly as many as it has where it keeps its rules, and never more than
+/// its bytes can hold. In format 2 each number ends with a byte below 128, one number a row and three an
+/// edge.
+fn room_of(bytes: &[u8], expect: &Expect) -> usize
+    ensures { LEAST_EDGE_LEN * result ≤ length bytes.now }
+{
+    let rows = expect.hi.saturating_sub(expect.lo) as usize;
+    let behind = bytes.get(HEAD_LEN..).unwrap_or(&[]);
+    if bytes.starts_with(&FIRST_MAGIC) {
+        behind.len().saturating_sub(rows * COUNT_LEN) / EDGE_LEN
+    } else {
+        last_bytes(behind).saturating_sub(rows) / LEAST_EDGE_LEN
+    }
 }
 
 /// The edges that the bytes give.
@@ -77,7 +104,7 @@ fn edges_of(alloc: Global, bytes: &[u8], expect: &Expect) -> Result<Vec<Born>, P
     ensures { DecodesPart (λ v. v.items) result (reading expect.now bytes.now) }
 {
     let mut reader = RowReader::new(*expect);
-    let mut edges = Vec::with_capacity(alloc, most_edges(bytes.len(), expect))?;
+    let mut edges = Vec::with_capacity(alloc, room_of(bytes, expect))?;
     if let Some(fault) = read_piece(&mut reader, &mut edges, bytes)? {
         return Err(PartError::Fault(fault));
     }

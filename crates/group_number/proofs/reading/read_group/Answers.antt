@@ -14,4 +14,4 @@ returns-then-first-lt128 c =
 pub returns-else-first-lt128 : goal.returns-else-first-lt128
 returns-else-first-lt128 c =
     let some : 0 < length c.args.bytes.now = omega (arith, eqb-false (length c.args.bytes.now) 0 (sym c.if-is_empty.ensures)) in
-    c.read_behind.ensures ∙ first_behind c.args.bytes.now some c.if-first-lt128.false
+    c.read_more.ensures ∙ first_behind c.args.bytes.now some c.if-first-lt128.false
