@@ -1,6 +1,6 @@
 #!/bin/sh
-# Edges per second of the codec of partition files, beside a plain loop in Rust over the same bytes: one million edges,
-# ten in a row. The least time of five rounds counts. Wants rt and rustc.
+# Edges per second of the codec of partition files in both formats, beside plain loops in Rust over the same bytes: one
+# million edges, ten in a row. The least time of five rounds counts. Wants rt and rustc.
 set -eu
 top=$(cd "$(dirname "$0")/.." && pwd)
 folder=$(mktemp -d)
@@ -11,9 +11,14 @@ rustc --edition 2021 -O -o "$folder/plain" "$top/bench/partition_plain.rs"
 "$folder/plain" >"$folder/theirs"
 awk '
     function least(name, time) { if (!(name in best) || time < best[name]) best[name] = time }
-    FILENAME ~ /ours/ && $1 == "reader" { least("reader", $2); least("decode", $4); least("encode", $6) }
-    FILENAME ~ /theirs/ { least("plain decode", $3); least("plain encode", $5) }
+    FILENAME ~ /ours/ && $2 == "reader" { least($1 " pieces", $3); least($1 " decode", $5); least($1 " encode", $7) }
+    FILENAME ~ /theirs/ { least($1 " plain decode", $4); least($1 " plain encode", $6) }
     END {
-        split("encode|plain encode|decode|plain decode|reader", names, "|")
-        for (i = 1; i <= 5; i++) printf "%-13s %7.1f million edges a second\n", names[i], 1 / best[names[i]] * 1000000
+        split("encode|plain encode|decode|plain decode|pieces", names, "|")
+        split("first|second", formats, "|")
+        for (f = 1; f <= 2; f++)
+            for (i = 1; i <= 5; i++) {
+                name = formats[f] " " names[i]
+                printf "%-20s %7.1f million edges a second\n", name, 1 / best[name] * 1000000
+            }
     }' "$folder/ours" "$folder/theirs"

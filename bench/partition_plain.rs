@@ -1,4 +1,4 @@
-//! The codec of partition files as a plain loop in Rust, with the same checks, to measure beside.
+//! The codec of partition files as plain loops in Rust, with the same checks, in both formats, to measure beside.
 use std::time::Instant;
 
 #[derive(Clone, Copy)]
@@ -22,7 +22,7 @@ fn number<const N: usize>(bytes: &[u8], at: usize) -> Option<[u8; N]> {
 }
 
 #[inline(never)]
-fn decode(bytes: &[u8], expect: &Expect) -> Option<Vec<Born>> {
+fn decode_first(bytes: &[u8], expect: &Expect) -> Option<Vec<Born>> {
     if number(bytes, 0)? != *b"GSP1"
         || u32::from_le_bytes(number(bytes, 4)?) != expect.lo
         || u32::from_le_bytes(number(bytes, 8)?) != expect.hi
@@ -51,7 +51,7 @@ fn decode(bytes: &[u8], expect: &Expect) -> Option<Vec<Born>> {
 }
 
 #[inline(never)]
-fn encode(edges: &[Born], expect: &Expect) -> Vec<u8> {
+fn encode_first(edges: &[Born], expect: &Expect) -> Vec<u8> {
     let mut bytes = Vec::with_capacity(12 + 8 * (expect.hi - expect.lo) as usize + 14 * edges.len());
     bytes.extend_from_slice(b"GSP1");
     bytes.extend_from_slice(&expect.lo.to_le_bytes());
@@ -70,20 +70,145 @@ fn encode(edges: &[Born], expect: &Expect) -> Vec<u8> {
     bytes
 }
 
+/// The group number at the place, and the place behind it.
+#[inline(always)]
+fn group(bytes: &[u8], at: usize) -> Option<(u64, usize)> {
+    let first = *bytes.get(at)?;
+    if first < 128 {
+        return Some((u64::from(first), at + 1));
+    }
+    let mut number = u64::from(first - 128);
+    let mut shift = 7;
+    let mut at = at + 1;
+    loop {
+        let byte = *bytes.get(at)?;
+        if byte == 0 || (shift == 63 && byte > 1) {
+            return None;
+        }
+        number |= u64::from(byte & 127) << shift;
+        at += 1;
+        if byte < 128 {
+            return Some((number, at));
+        }
+        shift += 7;
+    }
+}
+
+#[inline(never)]
+fn decode(bytes: &[u8], expect: &Expect) -> Option<Vec<Born>> {
+    if number(bytes, 0)? != *b"GSP2"
+        || u32::from_le_bytes(number(bytes, 4)?) != expect.lo
+        || u32::from_le_bytes(number(bytes, 8)?) != expect.hi
+    {
+        return None;
+    }
+    let rows = (expect.hi - expect.lo) as usize;
+    let last_bytes = bytes[12..].iter().filter(|byte| **byte < 128).count();
+    let mut edges = Vec::with_capacity(last_bytes.saturating_sub(rows) / 3);
+    let mut at = 12;
+    for src in expect.lo..expect.hi {
+        let (count, behind) = group(bytes, at)?;
+        at = behind;
+        let mut before: Option<(u64, u64)> = None;
+        for _ in 0..count {
+            let (label, behind) = group(bytes, at)?;
+            let (dst, behind) = group(bytes, behind)?;
+            let (birth, behind) = group(bytes, behind)?;
+            let (label, dst) = match before {
+                None => (label, dst),
+                Some((last, dst_before)) if label == 0 => (last, dst.checked_add(dst_before + 1)?),
+                Some((last, _)) => (label.checked_add(last)?, dst),
+            };
+            if label >= u64::from(expect.named) || dst >= u64::from(expect.vertices) || birth >= expect.round {
+                return None;
+            }
+            before = Some((label, dst));
+            edges.push(Born { src, label: label as u16, dst: dst as u32, birth });
+            at = behind;
+        }
+    }
+    (at == bytes.len()).then_some(edges)
+}
+
+#[inline(always)]
+fn group_len(number: u64) -> usize {
+    match number {
+        0..=127 => 1,
+        128..=16_383 => 2,
+        16_384..=2_097_151 => 3,
+        _ => (70 - number.leading_zeros() as usize) / 7,
+    }
+}
+
+#[inline(always)]
+fn put_group(bytes: &mut Vec<u8>, number: u64) {
+    let mut rest = number;
+    while rest >= 128 {
+        bytes.push(128 | rest as u8);
+        rest >>= 7;
+    }
+    bytes.push(rest as u8);
+}
+
+/// The numbers that tell an edge behind the one before it in its row.
+#[inline(always)]
+fn numbers(before: Option<&Born>, born: &Born) -> (u64, u64) {
+    match before {
+        Some(last) if last.label == born.label => (0, u64::from(born.dst) - u64::from(last.dst) - 1),
+        Some(last) => (u64::from(born.label - last.label), u64::from(born.dst)),
+        None => (u64::from(born.label), u64::from(born.dst)),
+    }
+}
+
+#[inline(never)]
+fn encode(edges: &[Born], expect: &Expect) -> Vec<u8> {
+    let mut len = 12 + (expect.hi - expect.lo) as usize + edges.len() / 64;
+    let mut before: Option<&Born> = None;
+    for born in edges {
+        let (label, dst) = numbers(before.filter(|last| last.src == born.src), born);
+        len += group_len(label) + group_len(dst) + group_len(born.birth);
+        before = Some(born);
+    }
+    let mut bytes = Vec::with_capacity(len);
+    bytes.extend_from_slice(b"GSP2");
+    bytes.extend_from_slice(&expect.lo.to_le_bytes());
+    bytes.extend_from_slice(&expect.hi.to_le_bytes());
+    let mut rest = edges;
+    for src in expect.lo..expect.hi {
+        let count = rest.iter().take_while(|born| born.src == src).count();
+        put_group(&mut bytes, count as u64);
+        let mut before = None;
+        for born in &rest[..count] {
+            let (label, dst) = numbers(before, born);
+            put_group(&mut bytes, label);
+            put_group(&mut bytes, dst);
+            put_group(&mut bytes, born.birth);
+            before = Some(born);
+        }
+        rest = &rest[count..];
+    }
+    bytes
+}
+
 fn main() {
     let expect = Expect { lo: 0, hi: 100_000, vertices: 100_000, round: 7, named: 10 };
     let edges: Vec<Born> = (0..expect.hi)
         .flat_map(|src| (0..10).map(move |label| Born { src, label, dst: src.wrapping_mul(7919) % 100_000, birth: 5 }))
         .collect();
-    let bytes = encode(&edges, &expect);
+    type Encode = fn(&[Born], &Expect) -> Vec<u8>;
+    type Decode = fn(&[u8], &Expect) -> Option<Vec<Born>>;
+    let formats: [(&str, Encode, Decode); 2] = [("first", encode_first, decode_first), ("second", encode, decode)];
     for _ in 0..5 {
-        let start = Instant::now();
-        let decoded = decode(&bytes, &expect).expect("a partition");
-        let decoder = start.elapsed().as_micros();
-        let start = Instant::now();
-        let again = encode(&decoded, &expect);
-        let encoder = start.elapsed().as_micros();
-        assert!(again == bytes);
-        println!("plain decode {decoder} encode {encoder}");
+        for (name, encode, decode) in formats {
+            let bytes = encode(&edges, &expect);
+            let start = Instant::now();
+            let decoded = decode(&bytes, &expect).expect("a partition");
+            let decoder = start.elapsed().as_micros();
+            let start = Instant::now();
+            let again = encode(&decoded, &expect);
+            let encoder = start.elapsed().as_micros();
+            assert!(again == bytes);
+            println!("{name} plain decode {decoder} encode {encoder}");
+        }
     }
 }
