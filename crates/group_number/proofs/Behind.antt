@@ -7,8 +7,8 @@ use Rattle.std.proofs.lemmas.Nat.{pow-add, pow_pos, row_fits, shl_whole}
 use Rattle.std.proofs.Math.Nat.{mul_comm, mul_assoc}
 use Rattle.std.proofs.Math.Pow.{pow_mono}
 use Rattle.std.proofs.Math.Seq.{drop-cons}
-use Rattle.group_number.specs.declared.reading.GroupRead.{GroupRead}
-use Rattle.group_number.specs.declared.reading.GroupRead.TheVariants.{Short, Bad, Number}
+use Rattle.group_number.specs.declared.reading.NumberRead.{NumberRead}
+use Rattle.group_number.specs.declared.reading.NumberRead.TheVariants.{Short, Bad, Number}
 use Rattle.group_number.specs.Groups.{behind_group, groups_in, group_at}
 use Rattle.group_number.proofs.Steps.{at_end, at_last, at_large, at_many, at_more, behind_some}
 
@@ -44,13 +44,13 @@ three_are_all first (b ∷ []) long high some low = absurd (omega arith)
 three_are_all first (b ∷ d ∷ bytes) long high some low =
     let sum : (first - 128) + ((b - 128) + d * 128) * 128 ≡ (first - 128) + 128 * ((b - 128) + 128 * d) = omega arith in
     let behind : groups_in 57 (b ∷ d ∷ bytes) ≡ Number ((b - 128) + 128 * d) 2 =
-      at_more 57 b (d ∷ bytes) high (omega arith) ∙ ap (behind_group (b - 128)) (at_last 50 d bytes low (omega arith)) ∙ behind_some (b - 128) d 1 some in
+    at_more 57 b (d ∷ bytes) high (omega arith) ∙ ap (behind_group (b - 128)) (at_last 50 d bytes low (omega arith)) ∙ behind_some (b - 128) d 1 some in
     ap (λ (n : ℕ). Number n 3) sum ∙ sym (ap (behind_group (first - 128)) behind ∙ behind_some (first - 128) ((b - 128) + 128 * d) 2 (omega (arith, some)))
 
 -- ---- the bytes behind it
 
 -- groups in front of what is read behind them: their number, how many bits they have, and how many they are
-abbrev pub behind_groups : ℕ → ℕ → ℕ → GroupRead → GroupRead
+abbrev pub behind_groups : ℕ → ℕ → ℕ → NumberRead → NumberRead
 behind_groups low bits count Short = Short
 behind_groups low bits count Bad = Bad
 behind_groups low bits count (Number zero len) = Bad
@@ -61,7 +61,7 @@ groups_some : (low bits count high len : ℕ) → 0 < high
 groups_some low bits count zero len some = absurd (omega arith)
 groups_some low bits count (suc n) len some = refl
 
-pub behind_first : (low : ℕ) (behind : GroupRead) → behind_groups low 7 1 behind ≡ behind_group low behind
+pub behind_first : (low : ℕ) (behind : NumberRead) → behind_groups low 7 1 behind ≡ behind_group low behind
 behind_first low Short = refl
 behind_first low Bad = refl
 behind_first low (Number zero len) = refl
@@ -74,7 +74,7 @@ regroup low bits group high =
     rw power (grind (arith, mul_comm, mul_assoc))
 
 -- a group more stands in front
-pub behind_next : (low bits count group : ℕ) (behind : GroupRead)
+pub behind_next : (low bits count group : ℕ) (behind : NumberRead)
     → behind_groups low bits count (behind_group group behind) ≡ behind_groups (low + group * 2 ^ bits) (bits + 7) (count + 1) behind
 behind_next low bits count group Short = refl
 behind_next low bits count group Bad = refl

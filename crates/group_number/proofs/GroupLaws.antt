@@ -4,7 +4,7 @@ use Rattle.std.proofs.Common.{◌++◌, length, take, drop, refl, sym, ap, ◌�
 use Rattle.std.proofs.lemmas.Bool.{cases_lt, lt-ltb, le-ltb}
 use Rattle.std.proofs.lemmas.List.{take-append-drop, take-take}
 use Rattle.std.proofs.Math.Nat.{pow-suc}
-use Rattle.group_number.specs.declared.reading.GroupRead.TheVariants.{Bad, Number}
+use Rattle.group_number.specs.declared.reading.NumberRead.TheVariants.{Bad, Number}
 use Rattle.group_number.specs.Groups.{IsBytes, IsGroupNumber, behind_group, groups_in, group_at, is_decided}
 use Rattle.group_number.specs.Groups.{is_whole_group, groups_of, group_bytes}
 use Rattle.group_number.proofs.Steps.{pow_seven, pow_few, at_end, at_last, at_more, Step, step, parts, behind_some, decided_behind}

@@ -3,8 +3,8 @@ use Rattle.std.proofs.Common.{◌≡◌, ℕ, zero, suc, ◌+◌, ◌-◌, ◌*�
 use Rattle.std.proofs.lemmas.Bool.{cases_lt, lt-ltb, le-ltb, le-leb, lt-leb}
 use Rattle.std.proofs.lemmas.Nat.{pow-add}
 use Rattle.std.proofs.Math.Pow.{pow_mono}
-use Rattle.group_number.specs.declared.reading.GroupRead.{GroupRead}
-use Rattle.group_number.specs.declared.reading.GroupRead.TheVariants.{Short, Bad, Number}
+use Rattle.group_number.specs.declared.reading.NumberRead.{NumberRead}
+use Rattle.group_number.specs.declared.reading.NumberRead.TheVariants.{Short, Bad, Number}
 use Rattle.group_number.specs.Groups.{behind_group, groups_in, is_decided}
 
 -- seven bits are a factor of 128
@@ -57,7 +57,7 @@ step bits b =
     ]
 
 -- what stands behind a low group where a number is read
-pub record Parts (low : ℕ) (behind : GroupRead) (n len : ℕ) : Type 0 where
+pub record Parts (low : ℕ) (behind : NumberRead) (n len : ℕ) : Type 0 where
   pub high : ℕ
   pub rest : ℕ
   pub read : behind ≡ Number high rest
@@ -65,7 +65,7 @@ pub record Parts (low : ℕ) (behind : GroupRead) (n len : ℕ) : Type 0 where
   pub number : n ≡ low + 128 * high
   pub length : len ≡ suc rest
 
-pub parts : (low : ℕ) (behind : GroupRead) (n len : ℕ) → behind_group low behind ≡ Number n len → Parts low behind n len
+pub parts : (low : ℕ) (behind : NumberRead) (n len : ℕ) → behind_group low behind ≡ Number n len → Parts low behind n len
 parts low Short n len e = absurd cc
 parts low Bad n len e = absurd cc
 parts low (Number zero rest) n len e = absurd cc
@@ -79,7 +79,7 @@ behind_some low zero rest some = absurd (omega arith)
 behind_some low (suc m) rest some = refl
 
 -- a group in front decides nothing
-pub decided_behind : (low : ℕ) (behind : GroupRead) → is_decided (behind_group low behind) ≡ is_decided behind
+pub decided_behind : (low : ℕ) (behind : NumberRead) → is_decided (behind_group low behind) ≡ is_decided behind
 decided_behind low Short = refl
 decided_behind low Bad = refl
 decided_behind low (Number zero rest) = refl

@@ -2,8 +2,8 @@
 -- last has 128 above its group. The last group isn't 0 unless it is the only one, so each number has one spelling.
 use Rattle.std.specs.Prelude.{◌≡◌, ℕ, zero, suc, ◌+◌, ◌-◌, ◌*◌, ◌/◌, ◌%◌, ◌^◌, ◌<◌, ◌≤◌, nat_lt, nat_le, if◌then◌else◌}
 use Rattle.std.specs.Prelude.{Bool, true, false, List, [], ◌∷◌, slice_index_or}
-use Rattle.group_number.specs.declared.reading.GroupRead.{GroupRead}
-use Rattle.group_number.specs.declared.reading.GroupRead.TheVariants.{Short, Bad, Number}
+use Rattle.group_number.specs.declared.reading.NumberRead.{NumberRead}
+use Rattle.group_number.specs.declared.reading.NumberRead.TheVariants.{Short, Bad, Number}
 
 -- numbers below 256
 abbrev pub IsBytes : List ℕ → Type 0
@@ -18,25 +18,25 @@ IsGroupNumber (b ∷ c ∷ bytes) n =
     (128 ≤ b) × (b < 256) × (high : ℕ) × (0 < high) × (n + 128 ≡ b + 128 * high) × IsGroupNumber (c ∷ bytes) high
 
 -- a low group in front of what is read behind it. A last group of 0 is spare there.
-abbrev pub behind_group : ℕ → GroupRead → GroupRead
+abbrev pub behind_group : ℕ → NumberRead → NumberRead
 behind_group low Short = Short
 behind_group low Bad = Bad
 behind_group low (Number zero len) = Bad
 behind_group low (Number (suc n) len) = Number (low + 128 * suc n) (suc len)
 
 -- the number of at most so many bits that begins these bytes
-unfoldable pub groups_in : ℕ → List ℕ → GroupRead
+unfoldable pub groups_in : ℕ → List ℕ → NumberRead
 groups_in bits [] = Short
 groups_in bits (b ∷ bytes) =
     if nat_lt b 128 then (if nat_lt b (2 ^ bits) then Number b 1 else Bad)
     else (if nat_le bits 7 then Bad else behind_group (b - 128) (groups_in (bits - 7) bytes))
 
 -- the group number that begins these bytes
-abbrev pub group_at : List ℕ → GroupRead
+abbrev pub group_at : List ℕ → NumberRead
 group_at bytes = groups_in 64 bytes
 
 -- whether bytes behind these change nothing of what is read
-abbrev pub is_decided : GroupRead → Bool
+abbrev pub is_decided : NumberRead → Bool
 is_decided Short = false
 is_decided Bad = true
 is_decided (Number n len) = true

@@ -1,5 +1,5 @@
 ghost use Rattle.std.specs.Prelude.{◌≡◌, ◌+◌, ◌-◌, ◌^◌, ◌<◌, ◌≤◌, ◌++◌, true, false, ℕ, List, length, take};
-ghost use Rattle.group_number.specs.declared.reading.GroupRead.TheVariants.{Number};
+ghost use Rattle.group_number.specs.declared.reading.NumberRead.TheVariants.{Number};
 ghost use Rattle.group_number.specs.Groups.{IsBytes, IsGroupNumber, group_at, group_bytes, is_whole_group};
 
 /// What is read is the spelling of a number below 2^64, and the spelling of such a number is read, whatever follows it.

@@ -11,5 +11,5 @@ mod spelling;
 pub use laws::{
     bytes_behind_change_nothing, no_spelling_begins_another, one_to_ten_bytes, reading_is_spelling,
 };
-pub use reading::{GroupRead, is_group_whole, read_group};
+pub use reading::{NumberRead, is_group_whole, read_group};
 pub use spelling::{group_len, put_group};

@@ -3,7 +3,7 @@ ghost use Rattle.group_number.specs.Groups.{behind_group, groups_in, group_at, i
 
 /// What is read where a group number should begin.
 #[derive(Clone, Copy, Debug, PartialEq, Eq)]
-pub enum GroupRead {
+pub enum NumberRead {
     /// The bytes end within the number.
     Short,
     /// No number below 2^64 is spelled so: it is too large, or its last group is a spare 0.
@@ -14,15 +14,15 @@ pub enum GroupRead {
 
 /// The group number that begins these bytes. Other bytes may stand behind it.
 #[inline(always)]
-pub fn read_group(bytes: &[u8]) -> GroupRead
+pub fn read_group(bytes: &[u8]) -> NumberRead
     ensures { result ≡ group_at bytes.now }
 {
     if bytes.is_empty() {
-        return GroupRead::Short;
+        return NumberRead::Short;
     }
     let first = bytes[0];
     if first < 128 {
-        GroupRead::Number {
+        NumberRead::Number {
             number: first as u64,
             len: 1,
         }
@@ -34,7 +34,7 @@ pub fn read_group(bytes: &[u8]) -> GroupRead
 /// A first group that has others behind it, and what is read of these. Numbers of two and of three bytes
 /// are read at once.
 #[inline(always)]
-fn read_more(first: u8, bytes: &[u8]) -> GroupRead
+fn read_more(first: u8, bytes: &[u8]) -> NumberRead
     requires { 128 ≤ first }
     ensures { result ≡ behind_group (first - 128) (groups_in 57 bytes.now) }
 {
@@ -43,7 +43,7 @@ fn read_more(first: u8, bytes: &[u8]) -> GroupRead
         return read_behind(first, bytes);
     }
     if bytes[0] < 128 {
-        return GroupRead::Number {
+        return NumberRead::Number {
             number: low + bytes[0] as u64 * 128,
             len: 2,
         };
@@ -51,7 +51,7 @@ fn read_more(first: u8, bytes: &[u8]) -> GroupRead
     if bytes[1] == 0 || bytes[1] >= 128 {
         return read_behind(first, bytes);
     }
-    GroupRead::Number {
+    NumberRead::Number {
         number: low + ((bytes[0] - 128) as u64 + bytes[1] as u64 * 128) * 128,
         len: 3,
     }
@@ -59,7 +59,7 @@ fn read_more(first: u8, bytes: &[u8]) -> GroupRead
 
 /// A first group, and what is read of any others behind it.
 #[inline(never)]
-fn read_behind(first: u8, bytes: &[u8]) -> GroupRead
+fn read_behind(first: u8, bytes: &[u8]) -> NumberRead
     requires { 128 ≤ first }
     ensures { result ≡ behind_group (first - 128) (groups_in 57 bytes.now) }
 {
@@ -67,10 +67,10 @@ fn read_behind(first: u8, bytes: &[u8]) -> GroupRead
     let mut shift: u32 = 7;
     for (i, &byte) in bytes.iter().enumerate() {
         if byte == 0 || (shift == 63 && byte > 1) {
-            return GroupRead::Bad;
+            return NumberRead::Bad;
         }
         if byte < 128 {
-            return GroupRead::Number {
+            return NumberRead::Number {
                 number: number + ((byte as u64) << shift),
                 len: i + 2,
             };
@@ -78,7 +78,7 @@ fn read_behind(first: u8, bytes: &[u8]) -> GroupRead
         number += ((byte - 128) as u64) << shift;
         shift += 7;
     }
-    GroupRead::Short
+    NumberRead::Short
 }
 
 /// Whether the bytes hold a whole group number, or begin none. Bytes behind them then change nothing of what is read.
@@ -86,8 +86,8 @@ pub fn is_group_whole(held: &[u8]) -> bool
     ensures { result ≡ is_whole_group held.now }
 {
     match read_group(held) {
-        GroupRead::Short => false,
-        GroupRead::Bad => true,
-        GroupRead::Number { .. } => true,
+        NumberRead::Short => false,
+        NumberRead::Bad => true,
+        NumberRead::Number { .. } => true,
     }
 }

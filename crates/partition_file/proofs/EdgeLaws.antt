@@ -8,7 +8,7 @@ use Rattle.faults.specs.declared.form_kind.FormKind.TheVariants.{BadLabel, BadOr
 use Rattle.partition_file.specs.declared.types.Expect.{Expect}
 use Rattle.partition_file.specs.declared.types.Format.{Format}
 use Rattle.partition_file.specs.declared.types.Format.TheVariants.{First, Second}
-use Rattle.partition_file.specs.FieldsRead.{Found, Behind, need, edge, born, is_known, is_above, label_of, destination_of}
+use Rattle.partition_file.specs.FieldsRead.{Behind, need, edge, born, is_known, is_above, label_of, destination_of}
 use Rattle.partition_file.specs.FieldsRead.{edge_at, label_at, label_then, destination_at, destination_then, birth_at, birth_then}
 use Rattle.partition_file.specs.Spelling.{found, FitsEdge, IsBytes, IsExpect, number_bytes, label_number, destination_number, edge_bytes}
 use Rattle.partition_file.proofs.NumberLaws.{Takes, Takes-then, FitsNumber, wide2, wide4, wide8, need_takes, number_takes, number_again}

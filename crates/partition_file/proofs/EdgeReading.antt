@@ -1,9 +1,9 @@
 -- An edge in front of bytes, field by field.
-use Rattle.std.proofs.Common.{◌≡◌, ℕ, ◌+◌, ◌-◌, ◌<◌, ◌≤◌, List, ◌++◌, length, take, drop, Option, Some, None, Result, Ok, Err, refl, sym, ap, ◌∙◌, append_assoc, arith, length-drop}
+use Rattle.std.proofs.Common.{◌≡◌, ℕ, ◌+◌, ◌-◌, ◌<◌, List, ◌++◌, length, take, drop, Option, Some, None, Result, Ok, Err, sym, ap, ◌∙◌, append_assoc, arith, length-drop}
 use Rattle.std.specs.Prelude.{IsErrAnd}
 use Rattle.std.proofs.lemmas.List.{take-append-drop, take_all, drop-drop}
 use Rattle.std.proofs.Math.Seq.{take-add}
-use Rattle.group_number.specs.declared.reading.GroupRead.TheVariants as numbers
+use Rattle.group_number.specs.declared.reading.NumberRead.TheVariants as numbers
 use Rattle.partition_file.specs.declared.types.Format.{Format}
 use Rattle.partition_file.specs.declared.types.PartFault.{PartFault}
 use Rattle.graph_words.specs.declared.types.Edge.{Edge}
@@ -52,7 +52,7 @@ take_three : (a b c : ℕ) (bytes more : List ℕ) → take (a + b + c) bytes ++
 take_three a b c bytes more =
     ap (λ (x : List ℕ). x ++ more) (take-add (a + b) c bytes)
     ∙ ap (λ (x : List ℕ). (x ++ take c (drop (a + b) bytes)) ++ more) (take-add a b bytes)
-    ∙ ap (λ (x : List ℕ). ((take a bytes ++ take b (drop a bytes)) ++ take c x) ++ more) (sym (drop-drop b a bytes) )
+    ∙ ap (λ (x : List ℕ). ((take a bytes ++ take b (drop a bytes)) ++ take c x) ++ more) (sym (drop-drop b a bytes))
     ∙ simp append_assoc
 
 pub edge_gives : (e : Expect) (f : Format) (v : ℕ) (before : Option Edge) (place : ℕ) (bytes : List ℕ) (label first dst second birth third : ℕ)

@@ -1,11 +1,10 @@
 -- One more byte of a field.
 use Rattle.std.proofs.Common.{◌⊎◌, ◌≡◌, ℕ, ◌+◌, ◌-◌, ◌<◌, ◌≤◌, List, [], ◌∷◌, ◌++◌, length, take, drop, set, Some, None, refl, sym, ap, subst, ◌∙◌, append_assoc, arith, inl, inr, length-append}
 use Rattle.std.proofs.lemmas.List.{append-nil, take_more_set, take_at, drop_all}
-use Rattle.group_number.specs.declared.reading.GroupRead.{GroupRead}
-use Rattle.group_number.specs.declared.reading.GroupRead.TheVariants as numbers
+use Rattle.group_number.specs.declared.reading.NumberRead.{NumberRead}
+use Rattle.group_number.specs.declared.reading.NumberRead.TheVariants as numbers
 use Rattle.faults.specs.declared.form_kind.FormKind.TheVariants.{Short, BadNumber}
 use Rattle.partition_file.specs.declared.types.Expect.{Expect}
-use Rattle.partition_file.specs.declared.types.Format.TheVariants.{First}
 use Rattle.partition_file.specs.declared.types.PartFault.{PartFault}
 use Rattle.partition_file.specs.declared.types.Stage.{Stage}
 use Rattle.partition_file.specs.declared.types.Stage.TheVariants as stages
@@ -16,7 +15,7 @@ use Rattle.partition_file.specs.declared.types.RowStep.TheVariants as steps
 use Rattle.partition_file.specs.FieldsRead.{complete, number_leads, number, stop, magic_at, low_at, high_at, count_at, label_at, destination_at, birth_at, end_at}
 use Rattle.partition_file.specs.Stages.{stage_at, format_in, width_of, field_in, numbered_at, IsNextStage, IsStage, IsCompleted, completed_at, stage_behind, step_of}
 use Rattle.partition_file.specs.Reader.{Reader, IsOpen, rest_of, FeedsField, GivesStep, Uses}
-use Rattle.partition_file.proofs.NumberLaws.{little_long, little_is, IsLittle, nothing_read, number_len, number_all, short_below, leads_short, leads_bad, leads_on}
+use Rattle.partition_file.proofs.NumberLaws.{little_long, little_is, IsLittle, nothing_read, number_all, short_below, leads_short, leads_bad, leads_on}
 
 pub width_at_most : (s : Stage) → width_of s ≤ 8
 width_at_most stages.Magic = omega arith
@@ -57,8 +56,8 @@ stage_number e (stages.Count f v) place b bytes = refl
 stage_number e (stages.Label r) place b bytes = refl
 stage_number e (stages.Destination r label) place b bytes = refl
 stage_number e (stages.Birth f edge left) place b bytes = refl
-stage_number e stages.End place b bytes = sym (ap (λ (r : GroupRead). number_leads r place (b ∷ bytes) (numbered_at e stages.End place)) (little_long 1 (b ∷ bytes) (omega arith)))
-stage_number e (stages.Fault f) place b bytes = sym (ap (λ (r : GroupRead). number_leads r place (b ∷ bytes) (numbered_at e (stages.Fault f) place)) (little_long 1 (b ∷ bytes) (omega arith)))
+stage_number e stages.End place b bytes = sym (ap (λ (r : NumberRead). number_leads r place (b ∷ bytes) (numbered_at e stages.End place)) (little_long 1 (b ∷ bytes) (omega arith)))
+stage_number e (stages.Fault f) place b bytes = sym (ap (λ (r : NumberRead). number_leads r place (b ∷ bytes) (numbered_at e (stages.Fault f) place)) (little_long 1 (b ∷ bytes) (omega arith)))
 
 -- ---- what a whole field leads to
 

@@ -1,5 +1,5 @@
 -- A partition file that is read is the spelling of what was read, and a spelling is read again.
-use Rattle.std.proofs.Common.{◌≡◌, ℕ, ◌+◌, ◌-◌, ◌^◌, ◌<◌, ◌≤◌, Bool, true, false, eqb, cond, List, [], ◌∷◌, ◌++◌, length, Option, Some, None, Err, refl, sym, ap, subst, ◌∙◌, append_assoc, inl, inr, arith}
+use Rattle.std.proofs.Common.{◌≡◌, ℕ, ◌+◌, ◌-◌, ◌^◌, ◌<◌, ◌≤◌, Bool, true, eqb, List, [], ◌∷◌, ◌++◌, length, Option, Some, None, Err, refl, sym, ap, subst, ◌∙◌, append_assoc, inl, inr, arith}
 use Rattle.std.specs.List.{AllByRecursion}
 use Rattle.std.proofs.lemmas.Bool.{eqb-true, cases_Bool}
 use Rattle.std.proofs.lemmas.Bool.Decides.{nat_tests}
@@ -28,12 +28,12 @@ format_takes e place (Some g) after rest es given = (g, refl, given)
 -- the format that has a magic
 format_is : (m : ℕ) (g : Format) → format_of m ≡ Some g → m ≡ magic_number g
 format_is m g e = elim (cases_Bool (eqb m (magic_number First))) [
-      | inl first ↦ let same : Some First ≡ Some g = sym (rw first refl) ∙ e in eqb-true _ _ first ∙ ap magic_number (the_one First g same)
-      | inr other ↦ elim (cases_Bool (eqb m (magic_number Second))) [
-        | inl second ↦ let same : Some Second ≡ Some g = sym (rw (other, second) refl) ∙ e in eqb-true _ _ second ∙ ap magic_number (the_one Second g same)
-        | inr none ↦ let no : None ≡ Some g = sym (rw (other, none) refl) ∙ e in absurd cc
-      ]
-    ]
+  | inl first ↦ let same : Some First ≡ Some g = sym (rw first refl) ∙ e in eqb-true _ _ first ∙ ap magic_number (the_one First g same)
+  | inr other ↦ elim (cases_Bool (eqb m (magic_number Second))) [
+    | inl second ↦ let same : Some Second ≡ Some g = sym (rw (other, second) refl) ∙ e in eqb-true _ _ second ∙ ap magic_number (the_one Second g same)
+    | inr none ↦ let no : None ≡ Some g = sym (rw (other, none) refl) ∙ e in absurd cc
+  ]
+]
   where
     the_one : (f g : Format) → Some f ≡ Some g → f ≡ g
     the_one f g e = cc
@@ -108,7 +108,7 @@ spelled_again e f es ex fits =
     let p2 : ℕ = p1 + length (little_bytes 4 e.lo) in
     let p3 : ℕ = p2 + length (little_bytes 4 e.hi) in
     let regrouped : spelling f (part e es) ≡ little_bytes 4 (magic_number f) ++ behind_magic =
-      ap (λ (x : List ℕ). ((x ++ little_bytes 4 e.lo) ++ little_bytes 4 e.hi) ++ rows) (sym (magic_text f)) ∙ simp append_assoc in
+    ap (λ (x : List ℕ). ((x ++ little_bytes 4 e.lo) ++ little_bytes 4 e.hi) ++ rows) (sym (magic_text f)) ∙ simp append_assoc in
     ap (magic_at e 0) regrouped
     ∙ number_again First 4 0 (magic_number f) behind_magic (magic_then e 0) (magic_fits f)
     ∙ ap (λ (x : Option Format). in_format e 0 x p1 behind_magic) (magic_is f)

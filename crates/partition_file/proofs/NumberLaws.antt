@@ -1,13 +1,13 @@
 -- A number that is read is the number that was written, and what was written is read again, whatever bytes follow.
-use Rattle.std.proofs.Common.{◌≡◌, ℕ, ◌+◌, ◌-◌, ◌^◌, ◌<◌, ◌≤◌, Bool, true, false, cond, ltb, List, [], ◌++◌, length, take, drop, refl, sym, ap, subst, ◌∙◌, append_assoc, arith, inl, inr, length-append}
-use Rattle.std.proofs.lemmas.Bool.{cases_lt, ltb-false, ltb-true, lt-ltb, le-ltb}
+use Rattle.std.proofs.Common.{◌≡◌, ℕ, ◌+◌, ◌-◌, ◌^◌, ◌<◌, ◌≤◌, Bool, true, false, List, [], ◌++◌, length, take, drop, refl, sym, ap, subst, ◌∙◌, append_assoc, arith, inl, inr, length-append}
+use Rattle.std.proofs.lemmas.Bool.{cases_lt, lt-ltb, le-ltb}
 use Rattle.std.proofs.lemmas.List.{take-append-drop, length-take, get_or-drop, get_or-take, get_or_past, drop_at, drop_all, drop-append-le}
 use Rattle.std.proofs.lemmas.Nat.{le_bytes_2, le_bytes_4, le_bytes_8}
 use Rattle.byteorder.specs.Endian.{little_number, little_bytes}
-use Rattle.byteorder.specs.Numbers.{little_from-append, little_number-reads_back, little_from-lt, length-bytes_low_first}
-use Rattle.group_number.specs.declared.reading.GroupRead.{GroupRead}
-use Rattle.group_number.specs.declared.reading.GroupRead.TheVariants as numbers
-use Rattle.group_number.specs.Groups.{group_at, group_bytes, is_decided, is_whole_group}
+use Rattle.byteorder.specs.Numbers.{little_from-append, little_number-reads_back, length-bytes_low_first}
+use Rattle.group_number.specs.declared.reading.NumberRead.{NumberRead}
+use Rattle.group_number.specs.declared.reading.NumberRead.TheVariants as numbers
+use Rattle.group_number.specs.Groups.{group_at, is_decided}
 use Rattle.group_number.proofs.GroupLaws as groups
 use Rattle.faults.specs.declared.form_kind.FormKind.{FormKind}
 use Rattle.faults.specs.declared.form_kind.FormKind.TheVariants.{Short, BadNumber}
@@ -51,7 +51,7 @@ pub little_short : (w : ℕ) (bytes : List ℕ) → length bytes < w → little_
 little_short w bytes lt = rw (lt-ltb (length bytes) w lt) refl
 
 -- what was read, where it is a number
-abbrev pub IsLittle : ℕ → List ℕ → GroupRead → Type 0
+abbrev pub IsLittle : ℕ → List ℕ → NumberRead → Type 0
 IsLittle w bytes numbers.Short = length bytes < w
 IsLittle w bytes numbers.Bad = ⊥
 IsLittle w bytes (numbers.Number n len) = (w ≤ length bytes) × (n ≡ little_number w bytes) × (len ≡ w)
@@ -65,7 +65,7 @@ little_is w bytes =
 
 -- ---- a number in either format, and bytes behind it
 
-decided : (r : GroupRead) → is_decided r ≡ false → r ≡ numbers.Short
+decided : (r : NumberRead) → is_decided r ≡ false → r ≡ numbers.Short
 decided numbers.Short e = refl
 decided numbers.Bad e = absurd cc
 decided (numbers.Number n len) e = absurd cc
@@ -117,16 +117,16 @@ short_below Second w bytes most e = groups.short_below_ten bytes (ap is_decided 
 -- ---- what a number leads to
 
 pub leads_short : (f : Format) (w place : ℕ) (bytes : List ℕ) (next : ℕ → Behind) → number_in f w bytes ≡ numbers.Short → number f w place bytes next ≡ stop place Short
-leads_short f w place bytes next e = ap (λ (r : GroupRead). number_leads r place bytes next) e
+leads_short f w place bytes next e = ap (λ (r : NumberRead). number_leads r place bytes next) e
 
 pub leads_bad : (f : Format) (w place : ℕ) (bytes rest : List ℕ) (next : ℕ → Behind) → number_in f w bytes ≡ numbers.Bad → number f w place (bytes ++ rest) next ≡ stop place BadNumber
-leads_bad f w place bytes rest next e = ap (λ (r : GroupRead). number_leads r place (bytes ++ rest) next) (bad_on f w bytes rest e)
+leads_bad f w place bytes rest next e = ap (λ (r : NumberRead). number_leads r place (bytes ++ rest) next) (bad_on f w bytes rest e)
 
 pub leads_on : (f : Format) (w place : ℕ) (bytes rest : List ℕ) (next : ℕ → Behind) (n len : ℕ) → 0 < w → number_in f w bytes ≡ numbers.Number n len
     → number f w place (bytes ++ rest) next ≡ next n (place + len) (drop len bytes ++ rest)
 leads_on f w place bytes rest next n len some e =
     let within = (number_len f w bytes n len some e).1 in
-    ap (λ (r : GroupRead). number_leads r place (bytes ++ rest) next) (number_on f w bytes rest n len e)
+    ap (λ (r : NumberRead). number_leads r place (bytes ++ rest) next) (number_on f w bytes rest n len e)
     ∙ ap (next n (place + len)) (drop-append-le len bytes rest within)
 
 -- the same over the bytes of the number alone
@@ -160,7 +160,7 @@ need_takes true place kind next es e = (refl, e)
 need_takes false place kind next es e = let h = ap (λ (x : Found). x.fault) e in absurd cc
 
 -- which number was read
-leads_takes : (r : GroupRead) (place : ℕ) (bytes : List ℕ) (next : ℕ → Behind) (es : List Born) → number_leads r place bytes next ≡ found es
+leads_takes : (r : NumberRead) (place : ℕ) (bytes : List ℕ) (next : ℕ → Behind) (es : List Born) → number_leads r place bytes next ≡ found es
     → (n : ℕ) × (len : ℕ) × (r ≡ numbers.Number n len) × (next n (place + len) (drop len bytes) ≡ found es)
 leads_takes numbers.Short place bytes next es e = let h = ap (λ (x : Found). x.fault) e in absurd cc
 leads_takes numbers.Bad place bytes next es e = let h = ap (λ (x : Found). x.fault) e in absurd cc
@@ -205,5 +205,5 @@ spelled_again Second w n rest lt = groups.again n rest lt
 
 pub number_again : (f : Format) (w place n : ℕ) (rest : List ℕ) (next : ℕ → Behind) → FitsNumber f w n → number f w place (number_bytes f w n ++ rest) next ≡ next n (place + length (number_bytes f w n)) rest
 number_again f w place n rest next lt =
-    ap (λ (r : GroupRead). number_leads r place (number_bytes f w n ++ rest) next) (spelled_again f w n rest lt)
+    ap (λ (r : NumberRead). number_leads r place (number_bytes f w n ++ rest) next) (spelled_again f w n rest lt)
     ∙ ap (next n (place + length (number_bytes f w n))) (drop_at (number_bytes f w n) rest (length (number_bytes f w n)) refl)

@@ -2,8 +2,8 @@
 use Rattle.std.specs.Prelude.{ℕ, zero, suc, ◌+◌, ◌-◌, ◌^◌, Bool, true, not, nat_lt, ◌==◌, ◌&&◌, ◌||◌, if◌then◌else◌}
 use Rattle.std.specs.Prelude.{List, [], ◌∷◌, length, drop, Option, Some, None, codes}
 use Rattle.byteorder.specs.Endian.{little_number}
-use Rattle.group_number.specs.declared.reading.GroupRead.{GroupRead}
-use Rattle.group_number.specs.declared.reading.GroupRead.TheVariants as numbers
+use Rattle.group_number.specs.declared.reading.NumberRead.{NumberRead}
+use Rattle.group_number.specs.declared.reading.NumberRead.TheVariants as numbers
 use Rattle.group_number.specs.Groups.{group_at}
 use Rattle.graph_words.specs.declared.types.Edge.{Edge}
 use Rattle.graph_words.specs.declared.types.Born.{Born}
@@ -40,16 +40,16 @@ abbrev pub Behind : Type 0
 Behind = ℕ → List ℕ → Found
 
 -- the number of w bytes that begins these bytes, its low byte first
-abbrev pub little_at : ℕ → List ℕ → GroupRead
+abbrev pub little_at : ℕ → List ℕ → NumberRead
 little_at w bytes = if nat_lt (length bytes) w then numbers.Short else numbers.Number (little_number w bytes) w
 
 -- the number that begins these bytes: of w bytes in format 1, in groups of 7 bits in format 2
-abbrev pub number_in : Format → ℕ → List ℕ → GroupRead
+abbrev pub number_in : Format → ℕ → List ℕ → NumberRead
 number_in First w bytes = little_at w bytes
 number_in Second w bytes = group_at bytes
 
 -- what a number leads to, by what was read of it at the place
-abbrev pub number_leads : GroupRead → ℕ → List ℕ → (ℕ → Behind) → Found
+abbrev pub number_leads : NumberRead → ℕ → List ℕ → (ℕ → Behind) → Found
 number_leads numbers.Short place bytes next = stop place Short
 number_leads numbers.Bad place bytes next = stop place BadNumber
 number_leads (numbers.Number n len) place bytes next = next n (place + len) (drop len bytes)

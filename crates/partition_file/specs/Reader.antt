@@ -1,7 +1,7 @@
 -- A reader of a partition file that comes in pieces.
 use Rattle.std.specs.Prelude.{◌≡◌, ℕ, ◌+◌, ◌<◌, ◌≤◌, List, [], ◌++◌, length, take, Option, Some, None, Result, Ok, Err, ◌⊎◌}
-use Rattle.group_number.specs.declared.reading.GroupRead.{GroupRead}
-use Rattle.group_number.specs.declared.reading.GroupRead.TheVariants as numbers
+use Rattle.group_number.specs.declared.reading.NumberRead.{NumberRead}
+use Rattle.group_number.specs.declared.reading.NumberRead.TheVariants as numbers
 use Rattle.graph_words.specs.declared.types.Born.{Born}
 use Rattle.faults.specs.declared.form_kind.FormKind.TheVariants.{Short, BadNumber}
 use Rattle.partition_file.specs.declared.types.Expect.{Expect}
@@ -99,7 +99,7 @@ rule_leads next (Ok n) = next n
 rule_leads next (Err f) = λ after rest. ends_with f
 
 -- what a number that was asked for is: none where the bytes end within it
-abbrev pub IsFront : GroupRead → ℕ → Result (Option (ℕ × ℕ)) PartFault → Type 0
+abbrev pub IsFront : NumberRead → ℕ → Result (Option (ℕ × ℕ)) PartFault → Type 0
 IsFront read place (Ok None) = read ≡ numbers.Short
 IsFront read place (Ok (Some (n, len))) = read ≡ numbers.Number n len
 IsFront read place (Err f) = (read ≡ numbers.Bad) × (f ≡ record { place = place; kind = BadNumber })

@@ -7,17 +7,17 @@ use crate::types::{Format, PartFault};
 use byteorder::{ByteOrder, LittleEndian};
 use disk_model::FormKind;
 use graph_words::Edge;
-use group_number::{GroupRead, read_group};
+use group_number::{NumberRead, read_group};
 
 /// The number of so many bytes in front, its low byte first.
 #[inline(always)]
-fn read_little(width: usize, bytes: &[u8]) -> GroupRead
+fn read_little(width: usize, bytes: &[u8]) -> NumberRead
     requires some { 0 < width }
     requires most { width ≤ 8 }
     ensures { result ≡ little_at width bytes.now }
 {
     if bytes.len() < width {
-        return GroupRead::Short;
+        return NumberRead::Short;
     }
     let number = match width {
         2 => u64::from(LittleEndian::read_u16(bytes)),
@@ -25,7 +25,7 @@ fn read_little(width: usize, bytes: &[u8]) -> GroupRead
         8 => LittleEndian::read_u64(bytes),
         _ => LittleEndian::read_uint(bytes, width),
     };
-    GroupRead::Number { number, len: width }
+    NumberRead::Number { number, len: width }
 }
 
 /// The number in front, and how many bytes it has. None where the bytes end within it.
@@ -45,12 +45,12 @@ pub(crate) fn front(
         Format::Second => read_group(bytes),
     };
     match read {
-        GroupRead::Short => Ok(None),
-        GroupRead::Bad => Err(PartFault {
+        NumberRead::Short => Ok(None),
+        NumberRead::Bad => Err(PartFault {
             place,
             kind: FormKind::BadNumber,
         }),
-        GroupRead::Number { number, len } => Ok(Some((number, len))),
+        NumberRead::Number { number, len } => Ok(Some((number, len))),
     }
 }
 

@@ -38,7 +38,10 @@ fn a_store_of_format_1_is_closed_in_format_2(rt: HostRuntime) -> Result<(), Fail
     assert_eq!(rt; out.bytes(), PRINTED);
     assert_eq!(rt; code, 0);
     assert_eq!(rt; file(alloc, &mut disk, 5)?.as_slice(), PART.as_slice());
-    assert_eq!(rt; file(alloc, &mut disk, 4)?.as_slice(), FIRST_FRESH_PART.as_slice());
+    assert_eq!(rt;
+        file(alloc, &mut disk, 4)?.as_slice(),
+        FIRST_FRESH_PART.as_slice()
+    );
     Ok(())
 }
 
@@ -54,7 +57,10 @@ fn a_finished_store_of_format_1_is_printed_without_a_write(rt: HostRuntime) -> R
     assert_eq!(rt; out.bytes(), PRINTED);
     assert_eq!(rt; code, 0);
     assert_eq!(rt; disk.writes(), writes);
-    assert_eq!(rt; file(alloc, &mut disk, 5)?.as_slice(), FIRST_PART.as_slice());
+    assert_eq!(rt;
+        file(alloc, &mut disk, 5)?.as_slice(),
+        FIRST_PART.as_slice()
+    );
     Ok(())
 }
 

@@ -10,7 +10,11 @@ use std::test::Fail;
 use store::{OpenMode, Opened, Store, StoreFault, import, open};
 
 // The path, imported to a blank disk in partitions of so many edges.
-pub(crate) fn imported(alloc: Global, disk: &mut MemDisk, limit: u64) -> Result<Option<Store>, Fail> {
+pub(crate) fn imported(
+    alloc: Global,
+    disk: &mut MemDisk,
+    limit: u64,
+) -> Result<Option<Store>, Fail> {
     let mut inputs = two_files(alloc, EDGES, GRAMMAR)?;
     let Ok(_read) = read_grammar(alloc, GRAMMAR) else {
         return Ok(None);

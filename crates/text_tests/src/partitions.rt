@@ -152,14 +152,38 @@ fn numbers_have_their_limits(rt: HostRuntime) -> Result<(), Fail> {
     for (rows, place, kind) in [
         // a number that is cut, 2^64, an eleventh byte, and 2^64 - 1 edges of which none is there
         ([0x80].as_slice(), 12, FormKind::Short),
-        (&[0x80, 0x80, 0x80, 0x80, 0x80, 0x80, 0x80, 0x80, 0x80, 2], 12, FormKind::BadNumber),
-        (&[0x80, 0x80, 0x80, 0x80, 0x80, 0x80, 0x80, 0x80, 0x80, 0x81, 0], 12, FormKind::BadNumber),
-        (&[full, full, full, full, full, full, full, full, full, 1], 22, FormKind::Short),
+        (
+            &[0x80, 0x80, 0x80, 0x80, 0x80, 0x80, 0x80, 0x80, 0x80, 2],
+            12,
+            FormKind::BadNumber,
+        ),
+        (
+            &[
+                0x80, 0x80, 0x80, 0x80, 0x80, 0x80, 0x80, 0x80, 0x80, 0x81, 0,
+            ],
+            12,
+            FormKind::BadNumber,
+        ),
+        (
+            &[full, full, full, full, full, full, full, full, full, 1],
+            22,
+            FormKind::Short,
+        ),
         // a label of 2^16 + 1, as a sum, and a sum past 2^64
         (&[2, 1, 0, 0, 0x80, 0x80, 4], 16, FormKind::BadLabel),
-        (&[2, 1, 0, 0, full, full, full, full, full, full, full, full, full, 1], 16, FormKind::BadLabel),
+        (
+            &[
+                2, 1, 0, 0, full, full, full, full, full, full, full, full, full, 1,
+            ],
+            16,
+            FormKind::BadLabel,
+        ),
         // a destination of 2^32, as a sum
-        (&[2, 0, 0, 0, 0, full, full, full, full, 15, 0], 17, FormKind::BadVertex),
+        (
+            &[2, 0, 0, 0, 0, full, full, full, full, 15, 0],
+            17,
+            FormKind::BadVertex,
+        ),
     ] {
         let fault = fault_of_rows(rt.alloc(), rows)?;
         assert_eq!(rt; fault, Some(PartFault { place, kind }), "at {place}");
@@ -228,6 +252,9 @@ fn numbers_of_each_length_come_back_in_both_formats(rt: HostRuntime) -> Result<(
     let second = encode(rt.alloc(), &part)?;
     let again = decoded(rt.alloc(), &second, &WIDE)?;
     assert_eq!(rt; again.edges(), part.edges());
-    assert_eq!(rt; encode_first(rt.alloc(), &again)?.as_slice(), first.as_slice());
+    assert_eq!(rt;
+        encode_first(rt.alloc(), &again)?.as_slice(),
+        first.as_slice()
+    );
     Ok(())
 }

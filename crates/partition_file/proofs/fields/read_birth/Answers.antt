@@ -1,5 +1,5 @@
-use Rattle.std.proofs.Common.{◌≡◌, Some, refl, arith}
-use Rattle.group_number.specs.declared.reading.GroupRead.TheVariants as numbers
+use Rattle.std.proofs.Common.{◌≡◌, refl, arith}
+use Rattle.group_number.specs.declared.reading.NumberRead.TheVariants as numbers
 use Rattle.partition_file.specs.FieldsRead.{number_in, birth_at, birth_then}
 use Rattle.partition_file.proofs.EdgeReading.{passed, number_breaks, rule_breaks, rule_gives}
 use Rattle.partition_file.proofs.fields.read_birth.Goals as goal

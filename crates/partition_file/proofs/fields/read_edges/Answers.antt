@@ -19,7 +19,7 @@ returns-then-row-eq0-clause-reads c =
     let len = c.in-Ok-Some.len in
     let none : r.left ≡ 0 = c.if-row-eq0.true in
     let gives : Gives (edge_at e r.format r.vertex r.before) (c.args.place + used) (drop used c.args.bytes.now) (Ok (Some (b, len))) =
-      rw (c.in-Ok-Some.field-0-is, c.split_at.ensures.back) at c.in-Ok-Some.ensures in
+    rw (c.in-Ok-Some.field-0-is, c.split_at.ensures.back) at c.in-Ok-Some.ensures in
     rw c.in_ok-push-in-Ok-Some.ensures.items (leads_edge e (stages.Label c.args.row) c.args.place c.args.place c.args.edges.now.items c.edges.edges.items c.args.bytes.now used len r b c.row_from.result
     c.edges.invariant.leads gives (λ after rest. rw none (c.row_from.ensures.next after rest)))
 
@@ -31,7 +31,7 @@ edges-preserved c =
     let b = c.in-Ok-Some.born in
     let len = c.in-Ok-Some.len in
     let gives : Gives (edge_at e r.format r.vertex r.before) (c.args.place + used) (drop used c.args.bytes.now) (Ok (Some (b, len))) =
-      rw (c.in-Ok-Some.field-0-is, c.split_at.ensures.back) at c.in-Ok-Some.ensures in
+    rw (c.in-Ok-Some.field-0-is, c.split_at.ensures.back) at c.in-Ok-Some.ensures in
     record {
       leads = rw c.in_ok-push-in-Ok-Some.ensures.items (leads_edge e (stages.Label c.args.row) c.args.place c.args.place c.args.edges.now.items c.edges.edges.items c.args.bytes.now used len r b (stages.Label (record { format = r.format; vertex = r.vertex; left = r.left - 1; before = Some b.edge }))
           c.edges.invariant.leads gives (λ after rest. row_more e r (Some b.edge) after rest (omega (arith, c.if-row-eq0.false))));

@@ -1,7 +1,6 @@
-use Rattle.std.proofs.Common.{◌≡◌, ◌+◌, ◌<◌, ◌≤◌, ◌∙◌, [], length, take, drop, refl, sym, ap, arith, ◌++◌, ℕ, List}
+use Rattle.std.proofs.Common.{◌≡◌, ◌+◌, ◌∙◌, [], take, sym, arith}
 use Rattle.partition_file.specs.declared.types.Stage.TheVariants as stages
-use Rattle.partition_file.specs.FieldsRead.{number_in, count_at, count_then}
-use Rattle.partition_file.specs.Stages.{behind_row, stage_at}
+use Rattle.partition_file.specs.Stages.{behind_row}
 use Rattle.partition_file.proofs.Feeding.{nothing_in, stage_from_next}
 use Rattle.partition_file.proofs.NumberLaws.{number_len}
 use Rattle.partition_file.proofs.EdgeReading.{count_gives}
@@ -17,11 +16,14 @@ pub invariant_of-self : goal.invariant_of-self
 invariant_of-self c =
     let i = c.self.inside in
     let none : take i.count i.held ≡ [] = rw (← c.self.view_is) at c.requires.start in
-    rw none (c.self.invariant.0, record {
-      bounds = c.self.invariant.1.bounds;
-      stage = stage_from_next i.expect c.row_from-self-inside.result c.row_from-self-inside.ensures.stage;
-      partial = nothing_in c.row_from-self-inside.result;
-    })
+    rw none (
+      c.self.invariant.0,
+      record {
+        bounds = c.self.invariant.1.bounds;
+        stage = stage_from_next i.expect c.row_from-self-inside.result c.row_from-self-inside.ensures.stage;
+        partial = nothing_in c.row_from-self-inside.result;
+      },
+    )
 
 pub returns-clause-feeds : goal.returns-clause-feeds
 returns-clause-feeds c =

@@ -1,4 +1,4 @@
-use Rattle.std.proofs.Common.{◌≡◌, ◌+◌, ◌∙◌, [], take, drop, refl, sym, ap, length, Ok, Some, arith}
+use Rattle.std.proofs.Common.{◌≡◌, ◌+◌, ◌∙◌, [], take, refl, sym, ap, length, Ok, Some, arith}
 use Rattle.std.proofs.lemmas.List.{take_all}
 use Rattle.partition_file.specs.declared.types.Stage.TheVariants as stages
 use Rattle.partition_file.specs.FieldsRead.{edge_at, then_found}
@@ -11,11 +11,14 @@ pub invariant_of-self : goal.invariant_of-self
 invariant_of-self c =
     let i = c.self.inside in
     let none : take i.count i.held ≡ [] = rw (← c.self.view_is) at c.requires.start in
-    rw none (c.self.invariant.0, record {
-      bounds = c.self.invariant.1.bounds;
-      stage = stage_from_next i.expect c.row_from-self-inside.result c.row_from-self-inside.ensures.stage;
-      partial = nothing_in c.row_from-self-inside.result;
-    })
+    rw none (
+      c.self.invariant.0,
+      record {
+        bounds = c.self.invariant.1.bounds;
+        stage = stage_from_next i.expect c.row_from-self-inside.result c.row_from-self-inside.ensures.stage;
+        partial = nothing_in c.row_from-self-inside.result;
+      },
+    )
 
 pub returns-in-Ok-Some-clause-feeds : goal.returns-in-Ok-Some-clause-feeds
 returns-in-Ok-Some-clause-feeds c =

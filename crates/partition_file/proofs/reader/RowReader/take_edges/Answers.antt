@@ -7,11 +7,14 @@ pub invariant_of-self : goal.invariant_of-self
 invariant_of-self c =
     let i = c.self.inside in
     let none : take i.count i.held ≡ [] = rw (← c.self.view_is) at c.requires.start in
-    rw none (c.self.invariant.0, record {
-      bounds = c.self.invariant.1.bounds;
-      stage = c.in_ok-used.ensures.stage;
-      partial = nothing_in c.in_ok-used.stage;
-    })
+    rw none (
+      c.self.invariant.0,
+      record {
+        bounds = c.self.invariant.1.bounds;
+        stage = c.in_ok-used.ensures.stage;
+        partial = nothing_in c.in_ok-used.stage;
+      },
+    )
 
 pub returns-clause-takes : goal.returns-clause-takes
 returns-clause-takes c =

@@ -1,4 +1,3 @@
-use Rattle.std.proofs.Common.{◌≡◌, ◌+◌, drop, ◌≤◌, arith, length-drop, refl}
 use Rattle.partition_file.proofs.PieceLemmas.{taken_none, taken_more}
 use Rattle.partition_file.proofs.reader.RowReader.take_rows.Goals as goal
 
