@@ -3,9 +3,8 @@ ghost use Rattle.std.specs.Prelude.{◌≡◌, ◌+◌, ◌^◌, ◌<◌, ◌≤
 ghost use Rattle.row_table.specs.Loaded.{IsRow};
 ghost use Rattle.superstep.specs.Room.{IsInFormat, capacity_of};
 
-use crate::fixtures::{are_edges, edge_of, grammar_of};
+use crate::fixtures::{are_edges, edge_of, grammar_of, normal_of};
 use graph_words::{Edge, EdgeList, Vertex};
-use normal_form::normalise;
 use partition_file::Partition;
 use plain_closing::closure;
 use row_table::Rows;
@@ -86,6 +85,14 @@ fn born_at(rows: &Rows, birth: u64) -> usize {
     rows.edges().iter().filter(|b| b.birth == birth).count()
 }
 
+/// Whether so many edges have birth 0, birth 1 and so on.
+fn have_births(rows: &Rows, counts: &[usize]) -> bool {
+    counts
+        .iter()
+        .enumerate()
+        .all(|(birth, n)| born_at(rows, birth as u64) == *n)
+}
+
 /// Whether the rows have just these edges.
 fn have_edges(rows: &Rows, wanted: &[(u32, u16, u32)]) -> bool {
     let edges = rows.edges();
@@ -122,17 +129,28 @@ const CLOSED_BRACKETS: [(u32, u16, u32); 13] = [
     (1, 1001, 1),
 ];
 
+/// Closes rows under rules. The first round joins what was born from birth 0 on, and its edges have birth 1.
+fn close(
+    rt: &impl Abort,
+    alloc: Global,
+    rules: &[(u16, &[u16])],
+    rows: &mut Rows,
+) -> Result<PairEnd, AllocError>
+    requires edges { All IsInFormat rows.old.edges }
+    requires capacity { capacity_of rows.old < 2 ^ 60 }
+{
+    let normal = normal_of(rt, alloc, rules)?;
+    run_pair(alloc, rows, &normal, 0, 1)
+}
+
 #[test]
 fn brackets_close_in_five_rounds_in_one_partition_or_two(rt: HostRuntime) -> Result<(), Fail> {
     let alloc = rt.alloc();
-    let normal = normalise(alloc, &grammar_of(&rt, alloc, &BRACKET_RULES)?)?;
     for cut in 0..2 {
         let mut rows = rows_of(&rt, alloc, cut, 2, &LOOPED_BRACKETS)?;
-        let end = run_pair(alloc, &mut rows, &normal, 0, 1)?;
+        let end = close(&rt, alloc, &BRACKET_RULES, &mut rows)?;
         assert_eq!(rt; end, PairEnd::Closed { rounds: 5 });
-        for (birth, count) in [5, 2, 2, 1, 2, 1].into_iter().enumerate() {
-            assert_eq!(rt; born_at(&rows, birth as u64), count);
-        }
+        assert!(rt; have_births(&rows, &[5, 2, 2, 1, 2, 1]));
         assert!(rt; have_edges(&rows, &CLOSED_BRACKETS));
     }
     Ok(())
@@ -162,32 +180,49 @@ fn the_plainest_closing_lists_the_named_labels(rt: HostRuntime) -> Result<(), Fa
 /// The rule `0 1 2`, and so the joins of a label 1 and a label 2.
 const PATH_RULES: [(u16, &[u16]); 1] = [(0, &[1, 2])];
 
-// The edges 0 -> 1 -> 2 with the labels 1 and 2.
+/// What a round finds on the edges 0 -> 1 -> 2 with the labels 1 and 2, which were born in round 0.
+fn round_of_a_path(rt: &impl Abort, alloc: Global, since: u64) -> Result<EdgeList, AllocError> {
+    let normal = normal_of(rt, alloc, &PATH_RULES)?;
+    let rows = rows_of(rt, alloc, 0, 3, &[(0, 1, 1), (1, 2, 2)])?;
+    run_round(alloc, &rows, &normal, since)
+}
+
 #[test]
 fn old_edges_are_not_joined_again(rt: HostRuntime) -> Result<(), Fail> {
-    let alloc = rt.alloc();
-    let normal = normalise(alloc, &grammar_of(&rt, alloc, &PATH_RULES)?)?;
-    let mut rows = rows_of(&rt, alloc, 0, 3, &[(0, 1, 1), (1, 2, 2)])?;
-    let round = run_round(alloc, &rows, &normal, 0)?;
-    assert!(rt; are_edges(round.as_slice(), &[(0, 0, 2)]));
-    assert!(rt; run_round(alloc, &rows, &normal, 1)?.as_slice().is_empty());
-    let end = run_pair(alloc, &mut rows, &normal, 1, 4)?;
-    assert_eq!(rt; end, PairEnd::Closed { rounds: 0 });
+    let first = round_of_a_path(&rt, rt.alloc(), 0)?;
+    assert!(rt; are_edges(first.as_slice(), &[(0, 0, 2)]));
+    let later = round_of_a_path(&rt, rt.alloc(), 1)?;
+    assert!(rt; later.as_slice().is_empty());
     Ok(())
+}
+
+/// What joins at vertex 2.
+fn joined_at_2(rt: &impl Abort, alloc: Global, rows: &Rows) -> Result<EdgeList, AllocError> {
+    let normal = normal_of(rt, alloc, &PATH_RULES)?;
+    let mut out = EdgeList::new(alloc);
+    rows.join_at(Vertex(2), &normal, 0, &mut out)?;
+    Ok(out)
+}
+
+/// Whether edges join at vertex 2 alone.
+fn join_only_at_2(rows: &Rows) -> Result<bool, AllocError> {
+    Ok(rows.centres()?.as_slice() == [Vertex(2)].as_slice())
+}
+
+/// How many edges the first partition has, and whether there is a second.
+fn parts_of(rows: Rows) -> Result<(usize, bool), AllocError> {
+    let (low, high) = rows.into_parts()?;
+    Ok((low.edges().len(), high.is_some()))
 }
 
 #[test]
 fn a_centre_joins_over_two_partitions_which_come_back(rt: HostRuntime) -> Result<(), Fail> {
     let alloc = rt.alloc();
-    let normal = normalise(alloc, &grammar_of(&rt, alloc, &PATH_RULES)?)?;
     let rows = rows_of(&rt, alloc, 2, 5, &[(2, 2, 4), (0, 1, 2), (1, 1, 2)])?;
-    assert_eq!(rt; rows.centres()?.as_slice(), [Vertex(2)].as_slice());
-    let mut out = EdgeList::new(alloc);
-    rows.join_at(Vertex(2), &normal, 0, &mut out)?;
+    assert!(rt; join_only_at_2(&rows)?);
+    let out = joined_at_2(&rt, alloc, &rows)?;
     assert!(rt; are_edges(out.as_slice(), &[(0, 0, 4), (1, 0, 4)]));
-    let (low, high) = rows.into_parts()?;
-    assert_eq!(rt; low.edges().len(), 2);
-    assert!(rt; high.is_some());
+    assert_eq!(rt; parts_of(rows)?, (2, true));
     Ok(())
 }
 
@@ -196,9 +231,8 @@ fn a_centre_joins_over_two_partitions_which_come_back(rt: HostRuntime) -> Result
 fn new_edges_are_joined_with_new_ones(rt: HostRuntime) -> Result<(), Fail> {
     let alloc = rt.alloc();
     let rules: [(u16, &[u16]); 2] = [(0, &[1, 1]), (0, &[0, 1])];
-    let normal = normalise(alloc, &grammar_of(&rt, alloc, &rules)?)?;
     let mut rows = rows_of(&rt, alloc, 1, 3, &[(0, 1, 1), (1, 1, 1), (1, 1, 2)])?;
-    run_pair(alloc, &mut rows, &normal, 0, 1)?;
+    close(&rt, alloc, &rules, &mut rows)?;
     let all = [
         (0, 0, 1),
         (0, 0, 2),
@@ -209,6 +243,6 @@ fn new_edges_are_joined_with_new_ones(rt: HostRuntime) -> Result<(), Fail> {
         (1, 1, 2),
     ];
     assert!(rt; have_edges(&rows, &all));
-    assert_eq!(rt; born_at(&rows, 1), 4);
+    assert!(rt; have_births(&rows, &[3, 4]));
     Ok(())
 }

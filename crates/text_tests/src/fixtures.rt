@@ -3,7 +3,7 @@ ghost use Rattle.std.specs.Prelude.{◌≡◌};
 
 use graph_words::{Edge, LabelId, Rule, Vertex, Word};
 use io_edge::NamedBytes;
-use normal_form::{Grammar, is_grammar};
+use normal_form::{Grammar, Normal, is_grammar, normalise};
 use std::alloc::{AllocError, Global};
 use std::process::Abort;
 
@@ -47,6 +47,16 @@ pub(crate) fn grammar_of(
     let within = is_grammar(&list);
     assert!(rt; within);
     Ok(Grammar::from_rules(list))
+}
+
+/// The normal form of such a grammar.
+pub(crate) fn normal_of(
+    rt: &impl Abort,
+    alloc: Global,
+    rules: &[(u16, &[u16])],
+) -> Result<Normal, AllocError> {
+    let grammar = grammar_of(rt, alloc, rules)?;
+    normalise(alloc, &grammar)
 }
 
 /// One file with its name.

@@ -1,10 +1,10 @@
 //! Grammar files, and the normal forms of worked examples.
-use crate::fixtures::grammar_of;
+use crate::fixtures::normal_of;
 use grammar_norm::{GrammarFault, read_grammar};
 use graph_words::LabelId;
 use io_edge::InputKind;
-use normal_form::{Normal, normalise};
-use std::alloc::{AllocError, Global};
+use normal_form::Normal;
+use std::alloc::Global;
 use std::process::Abort;
 use std::test::Fail;
 
@@ -61,15 +61,6 @@ fn a_grammar_is_refused_by_its_first_fault(rt: HostRuntime) -> Result<(), Fail> 
         assert_eq!(rt; fault_of(alloc, &text), fault);
     }
     Ok(())
-}
-
-fn normal_of(
-    rt: &impl Abort,
-    alloc: Global,
-    rules: &[(u16, &[u16])],
-) -> Result<Normal, AllocError> {
-    let grammar = grammar_of(rt, alloc, rules)?;
-    normalise(alloc, &grammar)
 }
 
 fn are(labels: &[LabelId], numbers: &[u16]) -> bool {
