@@ -53,12 +53,26 @@ class Bytes:
             self.refuse('%d is out of its range' % value, self.at - count)
         return value
 
-    def magic(self, wanted):
+    def group(self):
+        """A group number: 7 bits in each byte, the least first. All bytes but the last have bit 7 set."""
+        at, value = self.at, 0
+        for shift in range(0, 70, 7):
+            byte = self.take(1)[0]
+            value |= (byte & 127) << shift
+            if byte < 128 and value < 1 << 64 and (byte or not shift):
+                return value
+            if byte < 128:
+                break
+        self.refuse('no number goes on so', at)
+
+    def magic(self, *wanted):
+        """Which of these the next four bytes are."""
         found = self.take(4)
-        if found != wanted and found[:3] == wanted[:3]:
+        if found not in wanted and found[:3] == wanted[0][:3]:
             raise Refused('%s is of another format, %r; this reads %r' % (self.path, found, wanted))
-        if found != wanted:
-            self.refuse('it begins with %r and not with %r' % (found, wanted), self.at - 4)
+        if found not in wanted:
+            self.refuse('it begins with %r and not with %r' % (found, wanted[-1]), self.at - 4)
+        return found
 
 
 class Manifest:
@@ -109,16 +123,33 @@ def current(store):
     return manifests[0 if first == (last + 1) % 3 else -1]
 
 
+def first_row(file):
+    """The edges of a row in format 1: label number, destination, birth."""
+    return struct.iter_unpack('<HIQ', file.take(14 * file.number(8)))
+
+
+def second_row(file):
+    """The edges of a row in format 2, where labels and destinations are told by what they are more than those before."""
+    label = destination = None
+    for _ in range(file.group()):
+        more, number, birth = file.group(), file.group(), file.group()
+        if label is not None and more == 0:
+            destination += 1 + number
+        else:
+            label, destination = (label or 0) + more, number
+        yield label, destination, birth
+
+
 def edges(store, manifest, part):
     """Each edge of a partition: source, label number, destination, birth."""
     file = Bytes(store, part.file)
-    file.magic(b'GSP1')
+    row = first_row if file.magic(b'GSP1', b'GSP2') == b'GSP1' else second_row
     if (file.number(4), file.number(4)) != (part.lo, part.hi):
         file.refuse('it is of another interval of vertices', 4)
     starts, counts, newest = [other.lo for other in manifest.parts], [0] * len(manifest.parts), 0
     for source in range(part.lo, part.hi):
         last = None
-        for label, destination, birth in struct.iter_unpack('<HIQ', file.take(14 * file.number(8))):
+        for label, destination, birth in row(file):
             if len(manifest.labels) <= label < FRESH or destination >= manifest.vertices or birth >= manifest.round:
                 file.refuse('an edge of vertex %d has a label, vertex or birth that there is not' % source)
             if last is not None and (label, destination) <= last:

@@ -12,7 +12,8 @@ from program import TOOLS, graspan, needs_program
 MANIFEST = bytes.fromhex(
     '01 47534d31 01 0200000000000000 03000000 0600000000000000 0c00000000000000 0300 0153 0161 0162'
     '0100 03000000 05000000 0100000000000000 0300000000000000 0200000000000000')
-PARTITION = bytes.fromhex(
+PARTITION = bytes.fromhex('47535032 00000000 03000000 02 00 02 01 01 01 00 01 02 02 00 00')
+FIRST_PARTITION = bytes.fromhex(  # the same in format 1
     '47535031 00000000 03000000 0200000000000000 0000 02000000 0100000000000000 0100 01000000 0000000000000000'
     '0100000000000000 0200 02000000 0000000000000000 0000000000000000')
 FILES = {'g0000': b'\0' + MANIFEST[1:], 'g0001': MANIFEST, 'g0002': b'S a b\n', 'g0003': b'0 1 a\n1 2 b\n',
@@ -42,6 +43,8 @@ class WorkedExample(unittest.TestCase):
         self.assertEqual(self.reads(FILES, ['labels']).stdout, 'label S 1\nlabel a 1\nlabel b 1\n')
         self.assertEqual(self.reads(FILES, ['dump']).stdout, '0 2 S\n0 1 a\n1 2 b\n')
         self.assertEqual(self.reads(FILES, ['dump', 'a']).stdout, '0 1 a\n')
+        first = dict(FILES, g0005=FIRST_PARTITION)
+        self.assertEqual(self.reads(first, ['dump']).stdout, '0 2 S\n0 1 a\n1 2 b\n')
 
     def test_work_that_is_left(self):
         undone = dict(FILES, g0001=MANIFEST[:-8] + (1).to_bytes(8, 'little'))
@@ -52,15 +55,17 @@ class WorkedExample(unittest.TestCase):
         short = dict(FILES, g0001=MANIFEST[:40])
         extra = dict(FILES, g0005=PARTITION + b'x')
         other = dict(FILES, g0005=b'GSP9' + PARTITION[4:])
-        cut = dict(FILES, g0005=PARTITION[:50])
+        cut = dict(FILES, g0005=PARTITION[:20])
+        spare = dict(FILES, g0005=PARTITION[:12] + b'\x82' + PARTITION[13:])
         blank = dict(FILES, g0001=b'\0' + MANIFEST[1:])
-        late = dict(FILES, g0005=PARTITION[:26] + b'\2' + PARTITION[27:])
-        fewer = dict(FILES, g0005=PARTITION[:26] + b'\0' + PARTITION[27:])
+        late = dict(FILES, g0005=PARTITION[:15] + b'\2' + PARTITION[16:])
+        fewer = dict(FILES, g0005=PARTITION[:15] + b'\0' + PARTITION[16:])
         rounds = dict(FILES, g0001=MANIFEST[:6] + b'\5' + MANIFEST[7:])
         for files, message in ((later, 'store/g0001 is of another format'), (short, 'store/g0001 is damaged at byte'),
-                               (extra, 'store/g0005 is damaged at byte 78: bytes stand behind its end'),
+                               (extra, 'store/g0005 is damaged at byte 24: bytes stand behind its end'),
                                (other, 'store/g0005 is of another format'), (cut, 'store/g0005 is damaged at byte'),
-                               (late, 'store/g0005 is damaged at byte'), (rounds, 'store/g0001 is damaged at byte 6'),
+                               (late, 'store/g0005 is damaged at byte'),
+                               (spare, 'store/g0005 is damaged at byte 12: no number goes on so'), (rounds, 'store/g0001 is damaged at byte 6'),
                                (fewer, 'store/g0005 is damaged at byte 0: it has other edges than the manifest counts'),
                                (blank, 'store holds no store')):
             with self.subTest(message):
