@@ -1,5 +1,5 @@
 //! What commands print, and how they end.
-use crate::fixtures::{EDGES, GRAMMAR, PRINTED, RUN, path_says, says};
+use crate::fixtures::{EDGES, GRAMMAR, PRINTED, RUN, path_prints, path_says, prints, says};
 use disk_model::{Disk, MemDisk};
 use std::alloc::Global;
 use std::test::Fail;
@@ -57,9 +57,7 @@ fn a_run_prints_partitions_labels_and_answers(rt: HostRuntime) -> Result<(), Fai
         ),
     ] {
         let mut disk = MemDisk::new(alloc)?;
-        let (out, code) = says(alloc, &mut disk, edges, grammar, words)?;
-        assert_eq!(rt; out.bytes(), printed);
-        assert_eq!(rt; code, 0);
+        assert!(rt; prints(alloc, &mut disk, edges, grammar, words, (printed, 0))?);
     }
     Ok(())
 }
@@ -113,9 +111,7 @@ fn a_finished_store_is_asked(rt: HostRuntime) -> Result<(), Fail> {
         ),
         (["query", "S"].as_slice(), b"fault words\n", 1),
     ] {
-        let (out, status) = says(alloc, &mut disk, edges, grammar, words)?;
-        assert_eq!(rt; out.bytes(), printed);
-        assert_eq!(rt; status, code);
+        assert!(rt; prints(alloc, &mut disk, edges, grammar, words, (printed, code))?);
     }
     Ok(())
 }
@@ -127,9 +123,7 @@ fn a_second_run_writes_nothing_and_other_files_are_refused(rt: HostRuntime) -> R
     let (first, _) = path_says(alloc, &mut disk, &RUN)?;
     assert_eq!(rt; first.bytes(), PRINTED);
     let writes = disk.writes();
-    let (second, code) = path_says(alloc, &mut disk, &RUN)?;
-    assert_eq!(rt; second.bytes(), PRINTED);
-    assert_eq!(rt; code, 0);
+    assert!(rt; path_prints(alloc, &mut disk, &RUN, (PRINTED, 0))?);
     assert_eq!(rt; disk.writes(), writes);
     for (edges, grammar, printed) in [
         (
@@ -141,9 +135,7 @@ fn a_second_run_writes_nothing_and_other_files_are_refused(rt: HostRuntime) -> R
         (EDGES, b"S x b\n", b"fault other grammar 2\n"),
         (b"0 1 a\n1 3 b\n", GRAMMAR, b"fault other edges 8\n"),
     ] {
-        let (other, code) = says(alloc, &mut disk, edges, grammar, &RUN)?;
-        assert_eq!(rt; other.bytes(), printed);
-        assert_eq!(rt; code, 3);
+        assert!(rt; prints(alloc, &mut disk, edges, grammar, &RUN, (printed, 3))?);
     }
     assert_eq!(rt; disk.writes(), writes);
     Ok(())
@@ -158,17 +150,27 @@ fn a_damaged_store_is_blamed(rt: HostRuntime) -> Result<(), Fail> {
     let Ok(()) = disk.write_at(5, 24, b"\0") else {
         panic!(rt; "not written");
     };
-    let (out, code) = path_says(alloc, &mut disk, &["query", "S", "0"])?;
-    assert_eq!(rt; out.bytes(), b"fault store 5 24 Extra\n".as_slice());
-    assert_eq!(rt; code, 8);
+    assert!(rt;
+        path_prints(
+            alloc,
+            &mut disk,
+            &["query", "S", "0"],
+            (b"fault store 5 24 Extra\n".as_slice(), 8)
+        )?
+    );
     // The current slot is cut, and the other one isn't taken in its stead.
     let Ok(()) = disk.cut(1, 75) else {
         panic!(rt; "not cut");
     };
     for words in [["parts"].as_slice(), RUN.as_slice()] {
-        let (out, code) = path_says(alloc, &mut disk, words)?;
-        assert_eq!(rt; out.bytes(), b"fault store 1 68 Short\n".as_slice());
-        assert_eq!(rt; code, 8);
+        assert!(rt;
+            path_prints(
+                alloc,
+                &mut disk,
+                words,
+                (b"fault store 1 68 Short\n".as_slice(), 8)
+            )?
+        );
     }
     Ok(())
 }
@@ -194,12 +196,17 @@ fn the_first_fault_of_a_file_is_told(rt: HostRuntime) -> Result<(), Fail> {
         ),
     ] {
         let mut disk = MemDisk::new(alloc)?;
-        let (out, code) = says(alloc, &mut disk, edges, grammar, &RUN)?;
-        assert_eq!(rt; out.bytes(), printed);
-        assert_eq!(rt; code, 2);
-        let (out, code) = says(alloc, &mut disk, edges, grammar, &["parts"])?;
-        assert_eq!(rt; out.bytes(), b"fault no store\n".as_slice());
-        assert_eq!(rt; code, 9);
+        assert!(rt; prints(alloc, &mut disk, edges, grammar, &RUN, (printed, 2))?);
+        assert!(rt;
+            prints(
+                alloc,
+                &mut disk,
+                edges,
+                grammar,
+                &["parts"],
+                (b"fault no store\n".as_slice(), 9)
+            )?
+        );
     }
     Ok(())
 }
@@ -219,12 +226,16 @@ fn a_thousand_labels_are_there(rt: HostRuntime) -> Result<(), Fail> {
     let alloc = rt.alloc();
     let mut disk = MemDisk::new(alloc)?;
     let edges = many_labels(alloc, 1000)?;
-    let (out, code) = says(alloc, &mut disk, &edges, b"", &["run", "e", "g"])?;
-    assert_eq!(rt;
-        out.bytes(),
-        b"fault input edges 1001 TooManyLabels\n".as_slice()
+    assert!(rt;
+        prints(
+            alloc,
+            &mut disk,
+            &edges,
+            b"",
+            &["run", "e", "g"],
+            (b"fault input edges 1001 TooManyLabels\n".as_slice(), 2)
+        )?
     );
-    assert_eq!(rt; code, 2);
     let edges = many_labels(alloc, 999)?;
     let (_, code) = says(alloc, &mut disk, &edges, b"", &["run", "e", "g"])?;
     assert_eq!(rt; code, 0);

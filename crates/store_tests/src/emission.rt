@@ -1,5 +1,5 @@
 //! The graphs of C files, printed.
-use crate::fixtures::{says, two_files, word_list};
+use crate::fixtures::{prints, two_files, word_list};
 use disk_model::{MemDisk, NoDisk};
 use graspan_top::{Status, graspan};
 use io_edge::MemSink;
@@ -73,9 +73,7 @@ fn a_c_file_is_a_graph_or_refused_at_its_first_fault(rt: HostRuntime) -> Result<
         (b"", ["emit", "alias", "h"].as_slice(), b"fault read\n", 4),
     ] {
         let mut disk = MemDisk::new(alloc)?;
-        let (out, ended) = says(alloc, &mut disk, text, b"", words)?;
-        assert_eq!(rt; out.bytes(), printed);
-        assert_eq!(rt; ended, code);
+        assert!(rt; prints(alloc, &mut disk, text, b"", words, (printed, code))?);
     }
     Ok(())
 }
@@ -175,9 +173,16 @@ fn each_form_makes_its_vertices_and_edges(rt: HostRuntime) -> Result<(), Fail> {
     let alloc = rt.alloc();
     for (text, printed) in FORMS {
         let mut disk = MemDisk::new(alloc)?;
-        let (out, ended) = says(alloc, &mut disk, text, b"", &["emit", "alias", "e"])?;
-        assert_eq!(rt; out.bytes(), printed);
-        assert_eq!(rt; ended, 0);
+        assert!(rt;
+            prints(
+                alloc,
+                &mut disk,
+                text,
+                b"",
+                &["emit", "alias", "e"],
+                (printed, 0)
+            )?
+        );
     }
     Ok(())
 }
@@ -225,9 +230,16 @@ fn a_program_is_refused_where_its_walk_comes_first(rt: HostRuntime) -> Result<()
         ),
     ] {
         let mut disk = MemDisk::new(alloc)?;
-        let (out, ended) = says(alloc, &mut disk, text, b"", &["emit", "null", "e"])?;
-        assert_eq!(rt; out.bytes(), printed);
-        assert_eq!(rt; ended, 2);
+        assert!(rt;
+            prints(
+                alloc,
+                &mut disk,
+                text,
+                b"",
+                &["emit", "null", "e"],
+                (printed, 2)
+            )?
+        );
     }
     Ok(())
 }

@@ -1,5 +1,7 @@
 //! Calls that fail and runs that are stopped, one after the other.
-use crate::fixtures::{EDGES, GRAMMAR, PRINTED, RUN, end_of, path_says, two_files, word_list};
+use crate::fixtures::{
+    EDGES, GRAMMAR, PRINTED, RUN, end_of, path_prints, path_says, two_files, word_list,
+};
 use disk_model::{CrashChoice, MemDisk, NoDisk};
 use graspan_top::{Status, graspan};
 use io_edge::{MemSink, NullSink, SureInputs};
@@ -45,12 +47,14 @@ fn a_write_that_fails_in_mid_stream_leaves_a_finished_store(rt: HostRuntime) -> 
     let (status, out) = failing_write(alloc, &mut disk, 1)?;
     assert_eq!(rt; status, Status::WriteFault);
     assert!(rt; PRINTED.starts_with(out.bytes()));
-    let (out, code) = path_says(alloc, &mut disk, &["parts"])?;
-    assert_eq!(rt;
-        out.bytes(),
-        b"vertices 3\npart 0 0 3 3\nfinished\n".as_slice()
+    assert!(rt;
+        path_prints(
+            alloc,
+            &mut disk,
+            &["parts"],
+            (b"vertices 3\npart 0 0 3 3\nfinished\n".as_slice(), 0)
+        )?
     );
-    assert_eq!(rt; code, 0);
     Ok(())
 }
 

@@ -119,6 +119,19 @@ pub(crate) fn says(
     Ok((out, status.code()))
 }
 
+/// Whether a command over two files and a disk prints this and has this exit status.
+pub(crate) fn prints(
+    alloc: Global,
+    disk: &mut MemDisk,
+    edges: &[u8],
+    grammar: &[u8],
+    words: &[&str],
+    wanted: (&[u8], u8),
+) -> Result<bool, Fail> {
+    let (out, code) = says(alloc, disk, edges, grammar, words)?;
+    Ok((out.bytes(), code) == wanted)
+}
+
 /// The run that shows the answers of `S`.
 pub(crate) const RUN: [&str; 5] = ["run", "e", "g", "--show", "S"];
 
@@ -133,6 +146,16 @@ pub(crate) fn path_says(
     words: &[&str],
 ) -> Result<(MemSink, u8), Fail> {
     says(alloc, disk, EDGES, GRAMMAR, words)
+}
+
+/// Whether a command over the path prints this and has this exit status.
+pub(crate) fn path_prints(
+    alloc: Global,
+    disk: &mut MemDisk,
+    words: &[&str],
+    wanted: (&[u8], u8),
+) -> Result<bool, Fail> {
+    prints(alloc, disk, EDGES, GRAMMAR, words, wanted)
 }
 
 /// The bytes of a file, up to 100.

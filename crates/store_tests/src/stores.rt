@@ -1,6 +1,6 @@
 //! What an import writes, and a store that is opened and loaded.
 use crate::fixtures::{
-    EDGES, FRESH_PART, FRESH_SLOT, GRAMMAR, PART, SLOT, file, path_says, two_files,
+    EDGES, FRESH_PART, FRESH_SLOT, GRAMMAR, PART, SLOT, file, path_prints, path_says, two_files,
 };
 use disk_model::{Disk, FormKind, MemDisk};
 use grammar_norm::read_grammar;
@@ -67,9 +67,7 @@ fn a_store_with_work_left_says_so(rt: HostRuntime) -> Result<(), Fail> {
     ] {
         let mut disk = MemDisk::new(alloc)?;
         assert!(rt; imported(alloc, &mut disk, limit)?.is_some());
-        let (out, code) = path_says(alloc, &mut disk, words)?;
-        assert_eq!(rt; out.bytes(), printed);
-        assert_eq!(rt; code, status);
+        assert!(rt; path_prints(alloc, &mut disk, words, (printed, status))?);
     }
     Ok(())
 }
