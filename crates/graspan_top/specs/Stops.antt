@@ -9,7 +9,7 @@ use Rattle.manifest_switch.specs.Slots.{current_of}
 use Rattle.manifest_switch.specs.Steps.{Stays}
 use Rattle.store_law.specs.Texts.{Texts}
 use Rattle.store_law.specs.Left.{HoldsStore, IsLeft, ListsBorn}
-use Rattle.store_law.specs.Kept.{KeepsStores, Leads, Preserves}
+use Rattle.store_law.specs.Kept.{Leads, Preserves}
 use Rattle.store.specs.Import.{texts_of}
 use Rattle.graspan_top.specs.Given.{Given}
 use Rattle.graspan_top.specs.Run.{Accepts, IsGoodGrammar}
