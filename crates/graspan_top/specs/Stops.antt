@@ -44,6 +44,7 @@ RefusesFile _ = ⊥
 pub record Spares {D : Type 0} (d : disk.Ghosts D) (x : Given) (edges grammar : List ℕ) (status : Status)
     (old new : D) : Type 0 where
   -- A store that these files may not close, or that is of a file that is refused: but for the closing of an older gate.
-  pub refused : IsNotBlank x.tells x.before → (Accepts x edges grammar → ⊥) ⊎ RefusesFile status → LeavesBy d old new Stays
+  pub refused : IsNotBlank x.tells x.before → (Accepts x edges grammar → ⊥) ⊎ RefusesFile status
+      → LeavesBy d old new Stays
   -- The disk, where the grammar has a fault.
   pub faulty : (g : List ℕ) → x.told grammar ≡ Some g → (IsGoodGrammar g → ⊥) → new ≡ old
