@@ -1,5 +1,5 @@
 -- What steps of closing keep of stores, at each moment of a crash.
-use Rattle.std.proofs.Common.{◌≡◌, ◌⊎◌, ◌≤◌, ℕ, zero, suc, List, length, Ok, ap, sym, subst, arith, inl, inr}
+use Rattle.std.proofs.Common.{◌≡◌, ◌≤◌, ℕ, zero, suc, List, length, Ok, ap, sym, subst, arith, inl, inr}
 use Rattle.std.specs.Prelude.{IsTrue, Contains, true}
 use Rattle.graph_words.specs.declared.types.Born.{Born}
 use Rattle.graph_words.specs.Reach.{Graph}
@@ -15,7 +15,7 @@ use Rattle.disk_model.specs.View.{LeavesBy}
 use Rattle.disk_model.specs.Run.{at_end}
 use Rattle.manifest_codec.specs.declared.types.Manifest.{Manifest}
 use Rattle.manifest_switch.specs.declared.slot.Found.TheVariants.{At}
-use Rattle.manifest_switch.specs.Slots.{IsBlank, current_of}
+use Rattle.manifest_switch.specs.Slots.{current_of}
 use Rattle.manifest_switch.proofs.LawLemmas.{alone_law, blank_iff}
 use Rattle.store_law.specs.Texts.{Texts, graph, normal}
 use Rattle.store_law.specs.Listed.{AreExact, state_in}

@@ -1,6 +1,5 @@
 -- Stores of two texts after steps, and after stops.
-use Rattle.std.proofs.Common.{◌≡◌, ◌⊎◌, ℕ, zero, suc, ◌+◌, ◌<◌, ◌≤◌, List, [], true, length, refl, sym, ap, ◌∙◌, subst, arith, inl, inr}
-use Rattle.std.specs.Prelude.{Contains, slice_index_or}
+use Rattle.std.proofs.Common.{◌≡◌, ◌⊎◌, ℕ, zero, suc, ◌+◌, ◌≤◌, List, true, length, refl, sym, ap, ◌∙◌, subst, arith, inl, inr}
 use Rattle.std.proofs.lemmas.List.Elements.{All-contains}
 use Rattle.graph_words.specs.declared.types.Born.{Born}
 use Rattle.graph_words.specs.Text.{said, third}
@@ -20,7 +19,7 @@ use Rattle.manifest_codec.specs.Same.{AreOfSameTexts}
 use Rattle.manifest_codec.specs.declared.types.Manifest.{Manifest}
 use Rattle.manifest_codec.specs.Spelling.{FitsManifest}
 use Rattle.store_law.specs.Texts.{Texts, graph, normal, rules, edges_text}
-use Rattle.store_law.specs.Listed.{AreListed, ends_of, expect_of, part_file, part_of, state_in}
+use Rattle.store_law.specs.Listed.{ends_of, expect_of, part_file, part_of, state_in}
 use Rattle.store_law.specs.Left.{IsCopy, IsLeft, IsOfTexts, IsStore, IsStoreOf}
 use Rattle.store_law.specs.Steps.{KeepsFiles}
 use Rattle.store_law.proofs.Keeping.{listed_kept, store_kept}

@@ -1,12 +1,12 @@
 -- Passes are steps of the closing machine, where nothing is to be split and no budget is passed.
-use Rattle.std.proofs.Common.{◌≡◌, ◌==◌, ℕ, zero, suc, ◌+◌, ◌≤◌, ◌<◌, Bool, true, not, List, length, refl, sym, ap, subst, arith}
+use Rattle.std.proofs.Common.{◌≡◌, ◌==◌, ℕ, zero, suc, ◌+◌, ◌≤◌, ◌<◌, true, not, List, length, refl, ap, arith}
 use Rattle.std.specs.Prelude.{filter}
 use Rattle.std.proofs.lemmas.List.Filters.{length-filter_both}
 use Rattle.graph_words.specs.declared.types.Born.{Born}
 use Rattle.normal_law.specs.Closure.{Normal}
 use Rattle.closing_machine.specs.State.{State, edges_of, part, IsFinished}
 use Rattle.closing_machine.specs.Machine.{is_among, loaded, unloaded}
-use Rattle.closing_machine.specs.Chain.{After, EndsChain, IsLarge, IsPass, IsStep, pass}
+use Rattle.closing_machine.specs.Chain.{After, EndsChain, IsLarge, IsStep}
 use Rattle.closing_machine.proofs.Going.{rounds_longer}
 use Rattle.closing_machine.proofs.Telling.{finished_told}
 use Rattle.disk_model.specs.Disk.{Contents}

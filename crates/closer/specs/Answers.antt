@@ -49,7 +49,8 @@ abbrev pub EndsAsMachine : Normal → Contents → Manifest → Contents → Man
 EndsAsMachine n c m d last = (parts : List (List Born)) → AreListed c m n.fresh parts
     → Tells (counts_of m.map) (joined_of m.marks) (newest_of m.marks) (state_in m parts)
     → (after : List (List Born)) × AreListed d last n.fresh after
-    × ((limit : ℕ) → length (all_edges after) ≤ limit → EndsChain n limit limit (state_in m parts) (state_in last after))
+    × ((limit : ℕ) → length (all_edges after) ≤ limit
+    → EndsChain n limit limit (state_in m parts) (state_in last after))
 
 -- The store has no work left, and came from the one before by some steps, which are those of the closing machine.
 pub record IsClosedStore (tells : Bool) (seen_before : Contents) (images_before : Contents → Type 0) (before : OpenStore)

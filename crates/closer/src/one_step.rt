@@ -74,8 +74,9 @@ fn close_pair<D: Disk>(
 /// `Finished` comes exactly where no pair has work left, and then nothing was written. After `Again`
 /// the store is one step further, by the closing machine's steps, and `work_of` its manifest is less
 /// on any disk. Whatever it answers, a crash at any moment leaves the store as it was, or one that
-/// goes on from it; so stores are kept, whatever texts they are of, with each edge that they list. `DiskFault` comes only where the disk's count rose, and `BadStore` blames a
-/// partition of the pair as `load` does. `NoMemory` comes for want of memory.
+/// goes on from it; so stores are kept, whatever texts they are of, with each edge that they list.
+/// `DiskFault` comes only where the disk's count rose, and `BadStore` blames a partition of the pair
+/// as `load` does. `NoMemory` comes for want of memory.
 ///
 /// That of two partitions at a time edge pairs are joined on disk is Graspan's way (Wang et al.,
 /// Graspan: a single-machine disk-based graph system for interprocedural static analyses, 2017).

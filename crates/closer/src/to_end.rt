@@ -23,8 +23,9 @@ use std::alloc::Global;
 /// disk, since `work_of` the manifest falls with each step. Where no pair has work left at first,
 /// nothing is written. Whatever it answers, a crash at any moment leaves the store as it was, or one
 /// that goes on from it by some steps; so stores are kept, whatever texts they are of, with each edge
-/// that they list. After Ok what stopped runs of any texts left is exactly their closure. The faults are those of [`step`](crate::step), of the store
-/// that it had come to.
+/// that they list. After Ok what stopped runs of any texts left is exactly their closure. The faults
+/// are those of [`step`](crate::step), of the store that it had come to; a file that is blamed is one
+/// of the store from before, with its bytes from then.
 pub fn run_to_end<D: Disk>(
     alloc: Global,
     disk: &mut D,

@@ -1,10 +1,9 @@
 -- Which stage of a run refuses, from what its steps say.
-use Rattle.std.proofs.Common.{◌≡◌, ◌⊎◌, inl, inr, ℕ, ◌≤◌, List, [], ◌∷◌, length, Option, Some, Ok, Err, refl, sym, ap, subst, ◌∙◌, arith}
+use Rattle.std.proofs.Common.{◌≡◌, inl, inr, ℕ, ◌≤◌, List, [], ◌∷◌, length, Option, Some, Ok, Err, refl, sym, ap, subst, ◌∙◌, arith}
 use Rattle.std.specs.Prelude.{IsTrue, Bool, Result, IfErr, IsErrAnd}
 use Rattle.faults.specs.Counts.{Rose}
 use Rattle.faults.specs.Reasons.{Causes, HasReason, Holds, Implies, Why, disk_causes}
 use Rattle.faults.proofs.Handed.{disk_more, holds_more}
-use Rattle.faults.specs.declared.form_kind.FormKind.{FormKind}
 use Rattle.faults.specs.declared.kinds.InputFile.{InputFile}
 use Rattle.faults.specs.declared.kinds.InputFile.TheVariants.{Grammar, Edges}
 use Rattle.faults.specs.declared.kinds.InputKind.{InputKind}
@@ -12,13 +11,11 @@ use Rattle.edge_text.specs.EdgesText.{edges_fault}
 use Rattle.grammar_norm.specs.GrammarText.{grammar_names}
 use Rattle.disk_model.specs.Disk.{Contents}
 use Rattle.manifest_codec.specs.declared.types.Manifest.{Manifest}
-use Rattle.manifest_switch.specs.declared.slot.Found.TheVariants.{At, Blank}
+use Rattle.manifest_switch.specs.declared.slot.Found.TheVariants.{Blank}
 use Rattle.manifest_switch.specs.Slots.{current_of}
 use Rattle.manifest_switch.specs.Steps.{Stays}
 use Rattle.store_law.specs.Left.{HasNoWork}
 use Rattle.store_law.specs.Texts.{AreGood}
-use Rattle.store_fault.specs.Faults.{why_of}
-use Rattle.store_fault.specs.declared.fault.StoreFault.{StoreFault}
 use Rattle.open_store.specs.Answers.{DiffersFirst, compare_causes, copy_of}
 use Rattle.open_store.specs.Copy.{IsCopyRead}
 use Rattle.open_store.specs.Opened.{IsBadStore}
@@ -28,7 +25,7 @@ use Rattle.closer.specs.Answers.{BlamesOnTheWay}
 use Rattle.query_text.specs.Answered.{IsBlamed}
 use Rattle.graspan_top.specs.Given.{Given, HasCurrent, WhereTold}
 use Rattle.graspan_top.specs.Refusals.{ArePassed, Explained, FirstRefusal, Refuses, Rises, Stage}
-use Rattle.graspan_top.specs.Run.{Accepts, BeginsWith, BlamesPrinting, DiffersFromStored, IsGoodGrammar, IsOpenedAs, IsStored, WhereBlank}
+use Rattle.graspan_top.specs.Run.{Accepts, BeginsWith, BlamesPrinting, DiffersFromStored, IsGoodGrammar, IsOpenedAs, IsStored}
 use Rattle.graspan_top.specs.Run.{closed_stages, closing_stage, edges_stage, grammar_stage, label_stage, printing_stage, ready_stages, run_stages, same_grammar_stage, store_stage}
 use Rattle.graspan_top.specs.Stages.{DiffersFrom, IsCopied, IsGrammarFile, compare_stages, show_stages}
 use Rattle.graspan_top.specs.declared.status.Status.{Status}

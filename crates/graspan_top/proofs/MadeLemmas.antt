@@ -1,12 +1,11 @@
 -- No file of a store that was made of two texts is blamed.
-use Rattle.std.proofs.Common.{◌≡◌, ℕ, ◌<◌, List, true, length, refl, sym, subst, ◌∙◌, inl, inr}
+use Rattle.std.proofs.Common.{◌≡◌, ℕ, List, true, length, refl, subst, ◌∙◌, inr}
 use Rattle.std.specs.Prelude.{IsTrue, Result, Ok, Err, IfOk, Option}
 use Rattle.graph_words.specs.declared.types.Born.{Born}
 use Rattle.faults.specs.declared.form_kind.FormKind.{FormKind}
 use Rattle.normal_law.specs.NormalForm.{normal_form}
 use Rattle.disk_model.specs.Disk.{Contents}
 use Rattle.store_law.specs.Texts.{Texts, normal, rules}
-use Rattle.store_law.specs.Listed.{part_file}
 use Rattle.store_law.specs.Left.{IsStoreOf}
 use Rattle.store_law.proofs.Keeping.{imported_store}
 use Rattle.open_store.specs.PartRead.{IsRefused}

@@ -1,5 +1,5 @@
 -- The text of a run, piece by piece.
-use Rattle.std.proofs.Common.{◌≡◌, inl, inr, ℕ, ◌+◌, ◌<◌, ◌≤◌, Bool, List, [], ◌++◌, length, Option, None, Some, Ok, Err, refl, sym, ◌∙◌, subst, arith}
+use Rattle.std.proofs.Common.{◌≡◌, inl, inr, ℕ, ◌+◌, ◌<◌, Bool, List, [], ◌++◌, length, Option, None, Some, Ok, Err, refl, sym, ◌∙◌, subst, arith}
 use Rattle.std.specs.Prelude.{IsTrue, IsErrAnd, OnErr, Result, slice_index_or, Contains, IfSome}
 use Rattle.faults.specs.Reasons.{Holds}
 use Rattle.graph_words.specs.declared.types.Born.{Born}

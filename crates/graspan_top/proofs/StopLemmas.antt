@@ -1,7 +1,6 @@
 -- What a run keeps of stores at each moment, and what it spares.
 use Rattle.std.proofs.Common.{◌≡◌, ◌⊎◌, ◌≤◌, ℕ, List, Option, Some, Ok, ◌∙◌, sym, subst, inl, inr}
 use Rattle.std.specs.Prelude.{Bool, IsTrue}
-use Rattle.graph_words.specs.declared.types.Born.{Born}
 use Rattle.faults.specs.Reasons.{Holds, disk_causes}
 use Rattle.faults.specs.declared.form_kind.FormKind.{FormKind}
 use Rattle.disk_model.specs.declared.disk.Disk as disk

@@ -1,5 +1,6 @@
 -- What a run answers, prints and leaves.
-use Rattle.std.specs.Prelude.{◌≡◌, ◌⊎◌, ◌<◌, ℕ, true, Bool, IsTrue, List, [], ◌∷◌, ◌++◌, length, slice_get, slice_index_or, Contains, codes, Option, Some, None, Ok, IfSome}
+use Rattle.std.specs.Prelude.{◌≡◌, ◌⊎◌, ◌<◌, ℕ, true, Bool, IsTrue, List, [], ◌∷◌}
+use Rattle.std.specs.Prelude.{◌++◌, length, slice_get, slice_index_or, Contains, codes, Option, Some, None, Ok, IfSome}
 use Rattle.graph_words.specs.declared.types.LabelId.{LabelId}
 use Rattle.graph_words.specs.declared.types.Born.{Born}
 use Rattle.graph_words.specs.declared.types.Rule.{Rule}
@@ -93,7 +94,8 @@ pub record IsOpenedAs (x : Given) (edges grammar : List ℕ) (seen : Contents) (
 -- The closing begins with the contents from before, but for the slots, or with a store that was made of some texts, of
 -- which no file is ever blamed.
 abbrev pub BeginsWith : Given → Contents → OpenStore → Type 0
-BeginsWith x seen s = Stays x.before seen ⊎ ((t : Texts) × (parts : List (List Born)) × IsStoreOf t seen s.manifest parts)
+BeginsWith x seen s = Stays x.before seen
+    ⊎ ((t : Texts) × (parts : List (List Born)) × IsStoreOf t seen s.manifest parts)
 
 -- ---- the order in which a run refuses, stage by stage
 

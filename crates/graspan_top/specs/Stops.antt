@@ -9,7 +9,7 @@ use Rattle.manifest_switch.specs.Slots.{current_of}
 use Rattle.manifest_switch.specs.Steps.{Stays}
 use Rattle.store_law.specs.Texts.{Texts}
 use Rattle.store_law.specs.Left.{HoldsStore, IsLeft, ListsBorn}
-use Rattle.store_law.specs.Kept.{KeepsStores, Leads, Preserves}
+use Rattle.store_law.specs.Kept.{Leads, Preserves}
 use Rattle.store.specs.Import.{texts_of}
 use Rattle.graspan_top.specs.Given.{Given}
 use Rattle.graspan_top.specs.Run.{Accepts, IsGoodGrammar}
@@ -44,6 +44,7 @@ RefusesFile _ = ⊥
 pub record Spares {D : Type 0} (d : disk.Ghosts D) (x : Given) (edges grammar : List ℕ) (status : Status)
     (old new : D) : Type 0 where
   -- A store that these files may not close, or that is of a file that is refused: but for the closing of an older gate.
-  pub refused : IsNotBlank x.tells x.before → (Accepts x edges grammar → ⊥) ⊎ RefusesFile status → LeavesBy d old new Stays
+  pub refused : IsNotBlank x.tells x.before → (Accepts x edges grammar → ⊥) ⊎ RefusesFile status
+      → LeavesBy d old new Stays
   -- The disk, where the grammar has a fault.
   pub faulty : (g : List ℕ) → x.told grammar ≡ Some g → (IsGoodGrammar g → ⊥) → new ≡ old

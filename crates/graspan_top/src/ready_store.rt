@@ -107,7 +107,8 @@ pub(crate) fn ready_store<I: Inputs, D: Disk>(
         files.now.grammar.now (rises_in I.Inputs D.Disk inputs.old inputs.new disk.old disk.new))) }
     ensures stops { KeepsWork D.Disk (I.told inputs.old) files.now.edges.now files.now.grammar.now disk.old disk.new }
     ensures spares { IsNotBlank D.tells (D.seen disk.old) → LeavesBy D.Disk disk.old disk.new Stays }
-    ensures faulty { (g : List ℕ) → I.told inputs.old files.now.grammar.now ≡ Some g → (IsGoodGrammar g → ⊥) → disk.new ≡ disk.old }
+    ensures faulty { (g : List ℕ) → I.told inputs.old files.now.grammar.now ≡ Some g → (IsGoodGrammar g → ⊥)
+        → disk.new ≡ disk.old }
     ensures keeps { KeepsInputs I.Inputs inputs.old inputs.new }
     ensures later { D.faults disk.old ≤ D.faults disk.new }
 {

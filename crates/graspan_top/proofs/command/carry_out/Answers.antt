@@ -1,8 +1,8 @@
-use Rattle.std.proofs.Common.{◌≡◌, ℕ, List, Option, Some, sym, ap, subst, ◌∙◌}
-use Rattle.std.specs.Prelude.{IsTrue, option_map}
+use Rattle.std.proofs.Common.{◌≡◌, ℕ, List, sym, ap, subst, ◌∙◌}
+use Rattle.std.specs.Prelude.{option_map}
 use Rattle.disk_model.specs.Disk.{Contents}
 use Rattle.command_words.specs.declared.command.Command.{Command}
-use Rattle.command_words.specs.Command.{Said, run, said}
+use Rattle.command_words.specs.Command.{run, said}
 use Rattle.graspan_top.specs.Call.{IsExplained, the_call}
 use Rattle.graspan_top.specs.Command.{IsBegunOf, knows}
 use Rattle.graspan_top.specs.Given.{Given}

@@ -1,6 +1,5 @@
-use Rattle.std.proofs.Common.{◌≡◌, ℕ, ◌≤◌, List, Option, refl, sym, subst, ◌∙◌, arith}
+use Rattle.std.proofs.Common.{◌≡◌, refl, sym, subst, ◌∙◌, arith}
 use Rattle.faults.specs.Counts.{Rose}
-use Rattle.disk_model.specs.Disk.{Contents}
 use Rattle.command_words.specs.Command.{Said, run, said}
 use Rattle.command_words.proofs.ReadingLemmas.{one_reading}
 use Rattle.graspan_top.specs.Command.{IsBegunOf, IsTextOf, knows, stages_of}

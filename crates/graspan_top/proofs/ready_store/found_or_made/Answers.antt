@@ -1,13 +1,11 @@
-use Rattle.std.proofs.Common.{◌≡◌, ℕ, ◌≤◌, List, refl, sym, ap, subst, ◌∙◌, arith, inl}
-use Rattle.std.specs.Prelude.{IsTrue, IfErr}
+use Rattle.std.proofs.Common.{refl, sym, ap, subst, ◌∙◌, arith, inl}
+use Rattle.std.specs.Prelude.{IsTrue}
 use Rattle.faults.specs.Counts.{Rose}
 use Rattle.disk_model.specs.Disk.{Contents}
-use Rattle.manifest_switch.specs.declared.slot.Found.TheVariants.{Blank}
 use Rattle.store_fault.specs.Faults.{why_of}
 use Rattle.store.specs.Import.{import_causes}
 use Rattle.open_store.specs.Opened.{IsOpened, IsOpenedAlone}
 use Rattle.graspan_top.specs.Given.{Given}
-use Rattle.open_store.specs.declared.opened.Opened.{Opened as OpenedT}
 use Rattle.graspan_top.specs.Refusals.{rises_in}
 use Rattle.graspan_top.proofs.ExplainLemmas.{by_reason, compare_refused, if_err, import_refused, open_refused, rose_later}
 use Rattle.manifest_switch.specs.Steps.{Stays}

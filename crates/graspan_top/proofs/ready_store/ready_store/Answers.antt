@@ -1,4 +1,4 @@
-use Rattle.std.proofs.Common.{ℕ, ◌≤◌, List, Option, subst, arith}
+use Rattle.std.proofs.Common.{ℕ, List, Option, subst, arith}
 use Rattle.io_edge.proofs.DeviceLemmas.{keeps_then}
 use Rattle.store_fault.specs.Faults.{why_of}
 use Rattle.graspan_top.specs.Faults.{of_store}

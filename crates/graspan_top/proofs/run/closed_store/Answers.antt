@@ -1,4 +1,4 @@
-use Rattle.std.proofs.Common.{ℕ, ◌≤◌, List, arith}
+use Rattle.std.proofs.Common.{ℕ, List, arith}
 use Rattle.faults.specs.Counts.{Rose}
 use Rattle.store_fault.specs.Faults.{why_of}
 use Rattle.graspan_top.specs.Faults.{of_store}

@@ -1,5 +1,4 @@
-use Rattle.std.proofs.Common.{◌≡◌, inl, inr, ℕ, ◌++◌, List, [], Err, refl, sym, subst}
-use Rattle.std.specs.Prelude.{IsTrue}
+use Rattle.std.proofs.Common.{inl, inr, ℕ, ◌++◌, List, Err, refl, sym, subst}
 use Rattle.graph_words.specs.declared.types.Born.{Born}
 use Rattle.io_edge.specs.Devices.{AppendsPrefix}
 use Rattle.io_edge.proofs.DeviceLemmas.{AppendsPrefix-more, takes_more}
@@ -80,16 +79,16 @@ returns-in_err-tally-clause-begun g c = λ tells.
     err_of c.from_residual-in_err-tally.result c.in_err-tally.field-0.0 _ c.from_residual-in_err-tally.ensures.1
     (elim printed.2 [
       | inl all ↦ (
-          head_text m ++ (tally_text m.labels (all_edges parts) ++ rest),
-          inr (parts, listed_of_read store D.tells (D.seen c.args.disk.now) parts tells printed.1.are_read all, told_of_read store D.tells (D.seen c.args.disk.now) parts printed.1.are_read all, refl),
-          takes_more {T = Unit {0}} {E = Unit {0}} (O.told c.args.out.now) (O.told c.head.new.sink) (O.told c.tally.new.sink) (Err tt) (head_text m) (tally_text m.labels (all_edges parts) ++ rest) c.in_ok-head.ensures.taken
-              (AppendsPrefix-more (O.told c.head.new.sink) (O.told c.tally.new.sink) (tally_text m.labels (all_edges parts)) rest printed.1.taken),
-        )
+        head_text m ++ (tally_text m.labels (all_edges parts) ++ rest),
+        inr (parts, listed_of_read store D.tells (D.seen c.args.disk.now) parts tells printed.1.are_read all, told_of_read store D.tells (D.seen c.args.disk.now) parts printed.1.are_read all, refl),
+        takes_more {T = Unit {0}} {E = Unit {0}} (O.told c.args.out.now) (O.told c.head.new.sink) (O.told c.tally.new.sink) (Err tt) (head_text m) (tally_text m.labels (all_edges parts) ++ rest) c.in_ok-head.ensures.taken
+            (AppendsPrefix-more (O.told c.head.new.sink) (O.told c.tally.new.sink) (tally_text m.labels (all_edges parts)) rest printed.1.taken),
+      )
       | inr same ↦ (
-          head_text m,
-          inl refl,
-          subst (λ o. AppendsPrefix (O.told c.args.out.now) (O.told o) (head_text m)) (sym same) (whole_taken (O.told c.args.out.now) (O.told c.head.new.sink) (head_text m) c.in_ok-head.ensures.taken),
-        )
+        head_text m,
+        inl refl,
+        subst (λ o. AppendsPrefix (O.told c.args.out.now) (O.told o) (head_text m)) (sym same) (whole_taken (O.told c.args.out.now) (O.told c.head.new.sink) (head_text m) c.in_ok-head.ensures.taken),
+      )
     ])
 
 pub returns-in_err-print_shown-clause-begun : goal.returns-in_err-print_shown-clause-begun

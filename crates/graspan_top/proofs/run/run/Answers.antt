@@ -1,5 +1,5 @@
-use Rattle.std.proofs.Common.{◌≡◌, ℕ, ◌≤◌, List, Option, sym, subst, arith}
-use Rattle.std.specs.Prelude.{IsTrue, Result, option_map}
+use Rattle.std.proofs.Common.{◌≡◌, ℕ, List, Option, sym, subst, arith}
+use Rattle.std.specs.Prelude.{Result, option_map}
 use Rattle.faults.specs.Counts.{Rose}
 use Rattle.disk_model.specs.Disk.{Contents}
 use Rattle.store_law.specs.Listed.{AreExact}
