@@ -49,8 +49,7 @@ impl Store {
     /// All memory is taken before any call of the disk. Whatever it answers, a crash at any moment
     /// leaves what was current with all files but the slots, or `next` as the current manifest with
     /// all other files as a read gave them at the start. So stores of the texts of which `next` is a
-    /// store are kept, with each edge that the files of `next` list with the same birth. After Ok it
-    /// is the only open slot.
+    /// store are kept, with each edge that the files of `next` list with the same birth. After Ok it is the only open slot.
     pub fn commit<D: Disk>(
         self,
         alloc: Global,

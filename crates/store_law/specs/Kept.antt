@@ -7,8 +7,7 @@ use Rattle.disk_model.specs.Crash.{LeavesOnly}
 use Rattle.store_law.specs.Texts.{Texts}
 use Rattle.store_law.specs.Left.{HoldsStore, IsLeft, ListsBorn}
 
--- Where each image at the start has P, each that a crash may leave at any moment since has Q, and so has what a read
--- gives.
+-- Where each image at the start has P, each that a crash may leave at any moment since has Q, and so has what a read gives.
 abbrev pub Leads : {D : Type 0} → disk.Ghosts D → D → D → (Contents → Type 0) → (Contents → Type 0) → Type 0
 Leads d old new P Q = ((c : Contents) → d.may_leave old c → P c)
     → LeavesOnly d.moment d.left_since old new Q × (IsTrue d.tells → Q (d.seen new))

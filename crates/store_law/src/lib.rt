@@ -127,6 +127,5 @@ pub fn calls_keep_stores<D: Disk>()
     ensures switch { (old new : D) (t : Texts) (m : AManifest) (parts : List (List ABorn))
         → IsStoreOf t (D.seen old) m parts → LeavesBy D.Disk old new (Switches (D.seen old) m)
         → KeepsAmong D.Disk old new t (Contains (all_edges parts)) }
-    ensures and_then { (old mid new : D) → KeepsStores D.Disk old mid → KeepsStores D.Disk mid new
-        → KeepsStores D.Disk old new }
+    ensures and_then { (old mid new : D) → KeepsStores D.Disk old mid → KeepsStores D.Disk mid new → KeepsStores D.Disk old new }
 {}

@@ -1,4 +1,5 @@
-use Rattle.std.proofs.Common.{◌≡◌, sym, ap, subst, ◌∙◌, arith}
+use Rattle.std.proofs.Common.{◌≡◌, ℕ, List, refl, sym, ap, subst, ◌∙◌, arith}
+use Rattle.disk_model.specs.Disk.{Contents}
 use Rattle.store_law.proofs.Moments.{keeps_here, keeps_switching}
 use Rattle.open_store.specs.Store.{OpenStore}
 use Rattle.open_store.specs.Copy.{IsCopyRead}
