@@ -51,9 +51,9 @@ fn a_run_prints_partitions_labels_and_answers(rt: HostRuntime) -> Result<(), Fai
         // Blanks, a remark, and lines that say an edge twice.
         (
             b"0 1 a\r\n0\t1  a\n# note\n\n 0 1 a",
-            b"S a/\n",
+            b"S a\n",
             ["run", "e", "g"].as_slice(),
-            b"vertices 2\npart 0 0 2 1\nlabel S 0\nlabel a/ 0\nlabel a 1\ndone\n",
+            b"vertices 2\npart 0 0 2 2\nlabel S 1\nlabel a 1\ndone\n",
         ),
     ] {
         let mut disk = MemDisk::new(alloc)?;

@@ -2,7 +2,7 @@
 use crate::fixtures::{
     EDGES, GRAMMAR, PRINTED, RUN, end_of, path_prints, path_says, two_files, word_list,
 };
-use disk_model::{CrashChoice, MemDisk, NoDisk};
+use disk_model::{MemDisk, NoDisk};
 use graspan_top::{Status, graspan};
 use io_edge::{MemSink, NullSink, SureInputs};
 use std::alloc::Global;
@@ -65,13 +65,16 @@ fn calls_of_a_run(alloc: Global) -> Result<u64, Fail> {
     Ok(disk.calls())
 }
 
-/// Whether a run is told the failed disk, and nothing else fails, where one call of the disk fails.
+/// Whether a run is told the failed disk, and nothing else fails, where one call of the disk fails, and
+/// the next run on this disk prints the whole.
 fn is_told(alloc: Global, call: u64) -> Result<bool, Fail> {
     let mut disk = MemDisk::new(alloc)?;
     disk.fail_calls(vec![in alloc; call]?);
     let (out, code) = path_says(alloc, &mut disk, &RUN)?;
     let is_last = out.bytes().ends_with(b"fault disk\n");
-    Ok(is_last && code == 5 && disk.faults() == 1)
+    let one = disk.faults() == 1;
+    let again = path_prints(alloc, &mut disk, &RUN, (PRINTED, 0))?;
+    Ok(is_last && code == 5 && one && again)
 }
 
 #[test]
@@ -80,34 +83,6 @@ fn each_call_of_the_disk_that_fails_is_told(rt: HostRuntime) -> Result<(), Fail>
     assert!(rt; 18 < calls, "the import alone takes 18");
     for call in 0..calls {
         assert!(rt; is_told(rt.alloc(), call)?, "call {call}");
-    }
-    Ok(())
-}
-
-/// Whether a run whose disk stops at a call is told, and a run on what is left prints the whole.
-fn resumes_after(alloc: Global, call: u64, choice: CrashChoice) -> Result<bool, Fail> {
-    let mut disk = MemDisk::new(alloc)?;
-    disk.stop_from(call);
-    let (_, code) = path_says(alloc, &mut disk, &RUN)?;
-    if code != 5 {
-        return Ok(false);
-    }
-    let mut left = disk.crash(alloc, choice)?;
-    let (out, code) = path_says(alloc, &mut left, &RUN)?;
-    Ok(code == 0 && out.bytes() == PRINTED)
-}
-
-#[test]
-fn a_run_that_was_stopped_at_any_call_is_resumed(rt: HostRuntime) -> Result<(), Fail> {
-    let alloc = rt.alloc();
-    for call in 0..calls_of_a_run(alloc)? {
-        for choice in [
-            CrashChoice::AsRead,
-            CrashChoice::AsSynced,
-            CrashChoice::Drawn(call),
-        ] {
-            assert!(rt; resumes_after(alloc, call, choice)?, "stopped at {call}");
-        }
     }
     Ok(())
 }

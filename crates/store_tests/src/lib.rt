@@ -16,6 +16,8 @@ mod older;
 #[cfg(test)]
 mod slots;
 #[cfg(test)]
+mod stops;
+#[cfg(test)]
 mod stores;
 #[cfg(test)]
 mod words;

@@ -59,9 +59,9 @@ fn a_store_with_work_left_says_so(rt: HostRuntime) -> Result<(), Fail> {
         ),
         (1, ["dump"].as_slice(), b"fault unfinished 0 1\n", 10),
         (
-            1,
+            2,
             ["query", "S", "0"].as_slice(),
-            b"fault unfinished 0 1\n",
+            b"fault unfinished 0 0\n",
             10,
         ),
     ] {

@@ -57,6 +57,27 @@ fn a_line_end_may_be_cut_in_two(rt: HostRuntime) -> Result<(), Fail> {
     Ok(())
 }
 
+// Whether a line of so many bytes, with or without its end, is a line, however it is cut in two.
+fn is_a_line(alloc: Global, len: usize, end: &[u8], cut: usize) -> Result<bool, AllocError> {
+    let mut text = vec![in alloc; b'a'; len]?;
+    text.extend_from_slice(end)?;
+    let (front, back) = text.as_slice().split_at(cut.min(text.len()));
+    let pieces = two_pieces(alloc, front, back)?;
+    match lines_of_pieces(alloc, &pieces) {
+        Ok(lines) => Ok(lines.len() == 1),
+        Err(_) => Ok(false),
+    }
+}
+
+#[test]
+fn a_line_has_4096_bytes_at_most_however_it_is_cut(rt: HostRuntime) -> Result<(), Fail> {
+    for cut in 0..4098 {
+        assert!(rt; is_a_line(rt.alloc(), 4096, b"\n", cut)?, "cut at {cut}");
+        assert!(rt; !is_a_line(rt.alloc(), 4097, b"", cut)?, "cut at {cut}");
+    }
+    Ok(())
+}
+
 fn one_file(alloc: Global, text: &[u8]) -> Result<MemInputs, AllocError> {
     Ok(MemInputs::new(vec![in alloc; named(alloc, "e", text)?]?))
 }
