@@ -29,7 +29,7 @@ fed e bytes piece front before after old new has reads are within few =
       taken_within = omega (arith, has.taken_within, within, length-append bytes piece);
       few = omega (arith, has.few, few, length-append front before, length-append front after, length-append bytes piece);
       gives = λ more.
-          prepend_both front after (rest_of new more) ∙ ap (prepend front) (sym (reads more)) ∙ sym (prepend_both front before (rest_of old (piece ++ more))) ∙ has.gives (piece ++ more)
+          prepend_both front after (rest_of new more) ∙ ap (prepend front) (sym (reads.0 more)) ∙ sym (prepend_both front before (rest_of old (piece ++ more))) ∙ has.gives (piece ++ more)
           ∙ ap (reading e) (sym (append_assoc bytes piece more));
     }
 

@@ -81,9 +81,10 @@ abbrev pub LeadsTo : Expect → Stage → ℕ → List Born → List ℕ → Sta
 LeadsTo e s place before bytes t after behind =
     (more : List ℕ) → prepend before (stage_at e s place (bytes ++ more)) ≡ prepend behind (stage_at e t after more)
 
--- a whole piece was used, and its edges stand behind those before. A fault ends them.
+-- a whole piece was used, and its edges stand behind those before. A fault ends them, and without one nothing is decided that was not given.
 abbrev pub ReadsPiece : Reader → Reader → List Born → List Born → List ℕ → Option PartFault → Type 0
-ReadsPiece old new before after piece None = (more : List ℕ) → prepend before (rest_of old (piece ++ more)) ≡ prepend after (rest_of new more)
+ReadsPiece old new before after piece None =
+    ((more : List ℕ) → prepend before (rest_of old (piece ++ more)) ≡ prepend after (rest_of new more)) × IsOpen new
 ReadsPiece old new before after piece (Some f) = (more : List ℕ) → prepend before (rest_of old (piece ++ more)) ≡ prepend after (ends_with f)
 
 -- what the front of some bytes gives at a place, with how many of them it is, or its fault. Nothing is said where the bytes end within it.
@@ -112,7 +113,7 @@ CompletesField e s place held (Some c) = IsCompleted e c
 
 -- rows that lie whole in front of some bytes were taken, with their edges. How many bytes that is.
 pub record TakesRows (old new : Reader) (before after : List Born) (bytes : List ℕ) (used : ℕ) : Type 0 where
-  pub reads : ReadsPiece old new before after (take used bytes) None
+  pub reads : (more : List ℕ) → prepend before (rest_of old (take used bytes ++ more)) ≡ prepend after (rest_of new more)
   pub within : used ≤ length bytes
   pub taken : taken new ≤ taken old + used
   pub few : length after ≤ length before + used

@@ -1,7 +1,7 @@
 use Rattle.std.proofs.Common.{◌<◌, length, take, ◌∙◌, arith}
 use Rattle.partition_file.specs.declared.types.RowStep.TheVariants as steps
 use Rattle.partition_file.specs.Reader.{GivesStep, Uses}
-use Rattle.partition_file.proofs.PieceLemmas.{step_all, step_edge, step_fault, taken_rest}
+use Rattle.partition_file.proofs.PieceLemmas.{step_all, step_edge, step_open, step_fault, taken_rest}
 use Rattle.partition_file.proofs.decoder.read_piece.Goals as goal
 
 pub edges-preserved : goal.edges-preserved
@@ -30,6 +30,8 @@ returns-in-Fault-clause-reads c =
     λ more. taken_rest c.args.reader.now c.edges.reader c.take_rows.new.self c.args.edges.now.items c.edges.edges.items c.take_rows.new.edges.items c.args.piece.now c.edges.rest.now c.split_at.result.1.now c.in_ok-whole.whole c.edges.invariant.gives c.in_ok-whole.ensures.takes c.split_at.ensures.back more ∙ step_fault old new c.take_rows.new.edges.items c.in-Fault.fault left used more gives
 
 pub returns-in-More-clause-reads : goal.returns-in-More-clause-reads
-returns-in-More-clause-reads c =
-    λ more. taken_rest c.args.reader.now c.edges.reader c.take_rows.new.self c.args.edges.now.items c.edges.edges.items c.take_rows.new.edges.items c.args.piece.now c.edges.rest.now c.split_at.result.1.now c.in_ok-whole.whole c.edges.invariant.gives c.in_ok-whole.ensures.takes c.split_at.ensures.back more
-    ∙ step_all c.take_rows.new.self c.next-used.new.self c.take_rows.new.edges.items c.split_at.result.1.now c.next-used.result.0 c.next-used.result.1 c.in-More.is c.next-used.ensures.step c.next-used.ensures.used more
+returns-in-More-clause-reads c = (
+  λ more. taken_rest c.args.reader.now c.edges.reader c.take_rows.new.self c.args.edges.now.items c.edges.edges.items c.take_rows.new.edges.items c.args.piece.now c.edges.rest.now c.split_at.result.1.now c.in_ok-whole.whole c.edges.invariant.gives c.in_ok-whole.ensures.takes c.split_at.ensures.back more
+      ∙ step_all c.take_rows.new.self c.next-used.new.self c.take_rows.new.edges.items c.split_at.result.1.now c.next-used.result.0 c.next-used.result.1 c.in-More.is c.next-used.ensures.step c.next-used.ensures.used more,
+  step_open c.take_rows.new.self c.next-used.new.self c.split_at.result.1.now c.next-used.result.0 c.next-used.result.1 c.in-More.is c.next-used.ensures.step,
+)
