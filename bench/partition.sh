@@ -7,6 +7,9 @@ folder=$(mktemp -d)
 trap 'rm -rf "$folder"' EXIT
 rustc --edition 2021 -O -o "$folder/plain" "$top/bench/partition_plain.rs"
 (cd "$top/crates/bench" && rt run) >"$folder/build" 2>&1 || { cat "$folder/build" >&2; exit 1; }
+# Whether malloc maps a buffer afresh in each round hangs on the sizes of the others, and the page faults then take as
+# long as the loop. Both programs keep what they were given once, so that the loops alone are compared.
+export MALLOC_MMAP_THRESHOLD_=4000000000 MALLOC_TRIM_THRESHOLD_=4000000000 MALLOC_TOP_PAD_=268435456
 "$top/crates/bench/out/bench" partition 2>"$folder/ours" >/dev/null
 "$folder/plain" >"$folder/theirs"
 awk '

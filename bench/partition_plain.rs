@@ -131,17 +131,16 @@ fn decode(bytes: &[u8], expect: &Expect) -> Option<Vec<Born>> {
 }
 
 #[inline(always)]
-fn group_len(number: u64) -> usize {
-    match number {
-        0..=127 => 1,
-        128..=16_383 => 2,
-        16_384..=2_097_151 => 3,
-        _ => (70 - number.leading_zeros() as usize) / 7,
-    }
-}
-
-#[inline(always)]
 fn put_group(bytes: &mut Vec<u8>, number: u64) {
+    if number < 128 {
+        return bytes.push(number as u8);
+    }
+    if number < 16_384 {
+        return bytes.extend_from_slice(&[128 | number as u8, (number >> 7) as u8]);
+    }
+    if number < 2_097_152 {
+        return bytes.extend_from_slice(&[128 | number as u8, 128 | (number >> 7) as u8, (number >> 14) as u8]);
+    }
     let mut rest = number;
     while rest >= 128 {
         bytes.push(128 | rest as u8);
@@ -162,13 +161,8 @@ fn numbers(before: Option<&Born>, born: &Born) -> (u64, u64) {
 
 #[inline(never)]
 fn encode(edges: &[Born], expect: &Expect) -> Vec<u8> {
-    let mut len = 12 + (expect.hi - expect.lo) as usize + edges.len() / 64;
-    let mut before: Option<&Born> = None;
-    for born in edges {
-        let (label, dst) = numbers(before.filter(|last| last.src == born.src), born);
-        len += group_len(label) + group_len(dst) + group_len(born.birth);
-        before = Some(born);
-    }
+    // Room for the most that the edges can have, as in the codec: 18 bytes each.
+    let len = 12 + (expect.hi - expect.lo) as usize + edges.len() / 64 + 18 * edges.len();
     let mut bytes = Vec::with_capacity(len);
     bytes.extend_from_slice(b"GSP2");
     bytes.extend_from_slice(&expect.lo.to_le_bytes());

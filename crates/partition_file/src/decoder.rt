@@ -117,7 +117,8 @@ fn edges_of(alloc: Global, bytes: &[u8], expect: &Expect) -> Result<Vec<Born>, P
 /// The partition that the bytes spell, in the interval that is expected.
 ///
 /// `Fault` names the first field that breaks its rule. The room for the edges is taken once, by the
-/// length of the bytes, and never by a number that stands in them.
+/// length of the bytes and in format 2 by how many numbers end in them, and never by a number that
+/// stands in them.
 pub fn decode(alloc: Global, bytes: &[u8], expect: &Expect) -> Result<Partition, PartError>
     requires { expect.now.lo < expect.now.hi }
     // What is decoded keeps the rules, and is spelled so.

@@ -56,3 +56,6 @@ pub(crate) const BIRTH: usize = 6;
 
 /// How many bytes an edge has at least, in either format: one for each of its numbers.
 pub(crate) const LEAST_EDGE_LEN: usize = 3;
+
+/// How many bytes an edge has at most in format 2: 3 for its label, 5 for its destination and 10 for its birth.
+pub(crate) const MOST_EDGE_LEN: usize = 18;
