@@ -12,4 +12,4 @@ pub use laws::{
     bytes_behind_change_nothing, no_spelling_begins_another, one_to_ten_bytes, reading_is_spelling,
 };
 pub use reading::{NumberRead, is_group_whole, read_group};
-pub use spelling::{group_len, put_group};
+pub use spelling::put_group;

@@ -1,4 +1,4 @@
-ghost use Rattle.std.specs.Prelude.{◌≡◌, ◌++◌, length, OnOk};
+ghost use Rattle.std.specs.Prelude.{◌≡◌, ◌++◌, OnOk};
 ghost use Rattle.group_number.specs.Groups.{group_bytes};
 
 use std::alloc::AllocError;
@@ -43,35 +43,4 @@ fn put_groups(out: &mut Vec<u8>, number: u64) -> Result<(), AllocError>
     }
     out.push(rest as u8)?;
     Ok(())
-}
-
-/// How many bytes the number takes, from 1 to 10.
-#[inline(always)]
-#[tactic(auto, using(crate::proofs::GroupLaws::group_bytes_low, crate::proofs::GroupLaws::group_bytes_two, crate::proofs::GroupLaws::group_bytes_three))]
-pub fn group_len(number: u64) -> usize
-    ensures { result ≡ length (group_bytes number) }
-{
-    if number < 128 {
-        1
-    } else if number < 16_384 {
-        2
-    } else if number < 2_097_152 {
-        3
-    } else {
-        count_groups(number)
-    }
-}
-
-/// How many groups the number has.
-#[inline(never)]
-fn count_groups(number: u64) -> usize
-    ensures { result ≡ length (group_bytes number) }
-{
-    let mut count = 1;
-    let mut rest = number;
-    while rest >= 128 {
-        count += 1;
-        rest /= 128;
-    }
-    count
 }

@@ -1,4 +1,4 @@
-ghost use Rattle.std.specs.Prelude.{◌≡◌, ◌+◌, ◌*◌, ◌<◌, ◌≤◌, ◌^◌, length, sum_by, IfOk};
+ghost use Rattle.std.specs.Prelude.{◌≡◌, ◌+◌, ◌-◌, ◌*◌, ◌/◌, ◌<◌, ◌≤◌, ◌^◌, length, sum_by, IfOk};
 ghost use Rattle.partition_file.specs.FieldsRead.{reading};
 ghost use Rattle.std.specs.List.{flat_map};
 ghost use Rattle.partition_file.specs.Reader.{taken, ReadsPiece};
@@ -66,7 +66,7 @@ pub fn read_pieces(
 /// How many edges so many bytes of a partition file have at most, in either format, by their length
 /// alone.
 pub fn most_edges(len: usize, expect: &Expect) -> usize
-    ensures { LEAST_EDGE_LEN * result ≤ len }
+    ensures { result ≡ (len - (HEAD_LEN + (expect.now.hi - expect.now.lo))) / LEAST_EDGE_LEN }
 {
     let rows = expect.hi.saturating_sub(expect.lo) as usize;
     len.saturating_sub(HEAD_LEN + rows) / LEAST_EDGE_LEN
